@@ -1,0 +1,27 @@
+// Bodies from bytes, and back.
+ghost use mathlib.Core.Path.{_≡_};
+ghost use Rattle.ledgers.specs.Bodies.{content, made-body};
+use super::Body;
+use super::MAX_BODY;
+
+impl Body {
+    // The body with these bytes; none where they are more than an entry takes.
+    pub fn new(content: &[u8]) -> Option<Body>
+        ensures { λ r. ⌜ r ≡ made-body (now (content .entry)) ⌝ }
+    {
+        let length = content.len();
+        if length > MAX_BODY {
+            return None;
+        }
+        let mut bytes = [0; MAX_BODY];
+        bytes[0..length].copy_from_slice(content);
+        Some(Body { length, bytes })
+    }
+
+    // The bytes that count.
+    pub fn as_slice(&self) -> &[u8]
+        ensures { λ r. ⌜ now r ≡ content (now (self .entry)) ⌝ }
+    {
+        &self.bytes[0..self.length]
+    }
+}
