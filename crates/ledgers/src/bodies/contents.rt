@@ -9,19 +9,19 @@ impl Body {
     pub fn new(content: &[u8]) -> Option<Body>
         ensures { λ r. ⌜ r ≡ made-body (now (content .entry)) ⌝ }
     {
-        let length = content.len();
-        if length > MAX_BODY {
+        let len = content.len();
+        if len > MAX_BODY {
             return None;
         }
         let mut bytes = [0; MAX_BODY];
-        bytes[0..length].copy_from_slice(content);
-        Some(Body { length, bytes })
+        bytes[0..len].copy_from_slice(content);
+        Some(Body { len, bytes })
     }
 
     // The bytes that count.
     pub fn as_slice(&self) -> &[u8]
         ensures { λ r. ⌜ now r ≡ content (now (self .entry)) ⌝ }
     {
-        &self.bytes[0..self.length]
+        &self.bytes[0..self.len]
     }
 }

@@ -4,6 +4,7 @@ use native.Mathlib.Omega.{arith}
 use lib.ListN.{length}
 use Rattle.std.proofs.shelf.Tests.{cond-true, le-leb}
 use Rattle.std.specs.declared.option.Option.the-variants.{Some}
+use Rattle.ledgers.specs.Padding.{length-padded}
 use Rattle.ledgers.specs.BookieLists.{list-of}
 use Rattle.ledgers.proofs.Filled.{filled-in, stays-padded}
 use Rattle.ledgers.proofs.Same.{list-same}
@@ -14,7 +15,7 @@ ghost-result c =
     let numbers = c .args .numbers .now in
     let few : length numbers ≤ 5 = omega arith in
     let filled = filled-in 5 numbers (c .copy-from-slice .last .self) (length numbers - 0) few (omega arith) (c .copy-from-slice .ensures .after) in
-    (few, (stays-padded 5 numbers _ (length numbers) (omega arith) filled, tt))
+    (ap length filled ∙ length-padded 5 numbers, (few, (stays-padded 5 numbers _ (length numbers) (omega arith) filled, tt)))
 
 pub returns : need.returns
 returns c =
