@@ -19,29 +19,31 @@ use Rattle.ledgers.specs.declared.bookie_lists.BookieList.{BookieList}
 
 pub body-same : (a b : Body) → a .len ≡ b .len → a .bytes ≡ b .bytes → a ≡ b
 body-same a b n bs =
-    λ i. record
-      { len = n i
-      ; bytes = bs i
-      ; whole = isProp→PathP (λ j. length (bs j) ≡ 40) (λ j. ℕ-set (length (bs j)) 40) (a .whole) (b .whole) i
-      ; short = isProp→PathP (λ j. n j ≤ 40) (λ j. le-prop) (a .short) (b .short) i
-      ; padded =
+    λ i. record {
+      len = n i;
+      bytes = bs i;
+      whole = isProp→PathP (λ j. length (bs j) ≡ 40) (λ j. ℕ-set (length (bs j)) 40) (a .whole) (b .whole) i;
+      short = isProp→PathP (λ j. n j ≤ 40) (λ j. le-prop) (a .short) (b .short) i;
+      padded =
           isProp→PathP (λ j. bs j ≡ take (n j) (bs j) ++ replicate (40 - n j) 0)
-          (λ j. List·isSet ℕ-set (bs j) (take (n j) (bs j) ++ replicate (40 - n j) 0)) (a .padded) (b .padded) i }
+          (λ j. List·isSet ℕ-set (bs j) (take (n j) (bs j) ++ replicate (40 - n j) 0)) (a .padded) (b .padded) i;
+    }
 
 pub list-same : (a b : BookieList) → a .count ≡ b .count → a .numbers ≡ b .numbers → a ≡ b
 list-same a b n bs =
-    λ i. record
-      { count = n i
-      ; numbers = bs i
-      ; whole = isProp→PathP (λ j. length (bs j) ≡ 5) (λ j. ℕ-set (length (bs j)) 5) (a .whole) (b .whole) i
-      ; few = isProp→PathP (λ j. n j ≤ 5) (λ j. le-prop) (a .few) (b .few) i
-      ; padded =
+    λ i. record {
+      count = n i;
+      numbers = bs i;
+      whole = isProp→PathP (λ j. length (bs j) ≡ 5) (λ j. ℕ-set (length (bs j)) 5) (a .whole) (b .whole) i;
+      few = isProp→PathP (λ j. n j ≤ 5) (λ j. le-prop) (a .few) (b .few) i;
+      padded =
           isProp→PathP (λ j. bs j ≡ take (n j) (bs j) ++ replicate (5 - n j) 0)
-          (λ j. List·isSet ℕ-set (bs j) (take (n j) (bs j) ++ replicate (5 - n j) 0)) (a .padded) (b .padded) i }
+          (λ j. List·isSet ℕ-set (bs j) (take (n j) (bs j) ++ replicate (5 - n j) 0)) (a .padded) (b .padded) i;
+    }
 
 -- the front of a padded list, padded again
 repadded : (room n : ℕ) (items : List ℕ) → length (take n items) ≡ n → n ≤ room → items ≡ take n items ++ replicate (room - n) 0
-  → items ≡ padded room (take n items)
+    → items ≡ padded room (take n items)
 repadded room n items long few is =
     let least : n ≡ min room (length (take n items)) = omega arith in
     is ∙ ap (λ k. take n items ++ replicate (room - k) 0) least

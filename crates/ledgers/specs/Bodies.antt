@@ -16,9 +16,13 @@ content b = take (b .len) (b .bytes)
 
 -- the body with these bytes, as far as 40
 abbrev pub body-of : List ℕ → Body
-body-of bs = record
-      { len = min 40 (length bs); bytes = padded 40 bs; whole = length-padded 40 bs; short = omega arith
-      ; padded = padded-again 40 bs }
+body-of bs = record {
+  len = min 40 (length bs);
+  bytes = padded 40 bs;
+  whole = length-padded 40 bs;
+  short = omega arith;
+  padded = padded-again 40 bs;
+}
 
 -- an entry takes 40 bytes and no more
 abbrev pub made-body : List ℕ → Option Body

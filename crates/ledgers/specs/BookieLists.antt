@@ -16,9 +16,13 @@ listed b = take (b .count) (b .numbers)
 
 -- the list of these bookies, as far as five
 abbrev pub list-of : List ℕ → BookieList
-list-of bs = record
-      { count = min 5 (length bs); numbers = padded 5 bs; whole = length-padded 5 bs; few = omega arith
-      ; padded = padded-again 5 bs }
+list-of bs = record {
+  count = min 5 (length bs);
+  numbers = padded 5 bs;
+  whole = length-padded 5 bs;
+  few = omega arith;
+  padded = padded-again 5 bs;
+}
 
 -- an ensemble has five positions and no more
 abbrev pub made-list : List ℕ → Option BookieList

@@ -12,8 +12,12 @@ padded room xs = take room xs ++ replicate (room - min room (length xs)) 0
 -- What the types of bodies and of lists of bookies ask for: a padded list fills the room,
 pub length-padded : (room : ℕ) (xs : List ℕ) → length (padded room xs) ≡ room
 length-padded room xs =
-    omega (arith, length-append (take room xs) (replicate (room - min room (length xs)) 0), length-take room xs,
-      length-replicate {A = ℕ} (room - min room (length xs)) 0)
+    omega (
+      arith,
+      length-append (take room xs) (replicate (room - min room (length xs)) 0),
+      length-take room xs,
+      length-replicate {A = ℕ} (room - min room (length xs)) 0,
+    )
 
 -- and is the padding of its own front.
 pub padded-again : (room : ℕ) (xs : List ℕ)

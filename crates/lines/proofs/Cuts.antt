@@ -18,7 +18,7 @@ use Rattle.lines.specs.declared.numbers.Numbers.{Numbers}
 
 -- the first byte is part of the first word, or the space before the second
 cut-byte : (t : Bool) (b n : ℕ) (bs : List ℕ) → cut bs ≡ take n bs ∷ more-words (drop n bs)
-  → cond t (onto-first b (cut bs)) ([] ∷ cut bs) ≡ take (cond t (1 + n) 0) (b ∷ bs) ∷ more-words (drop (cond t (1 + n) 0) (b ∷ bs))
+    → cond t (onto-first b (cut bs)) ([] ∷ cut bs) ≡ take (cond t (1 + n) 0) (b ∷ bs) ∷ more-words (drop (cond t (1 + n) 0) (b ∷ bs))
 cut-byte true b n bs ih = rw (one-add n) (ap (onto-first b) ih)
 cut-byte false b n bs ih = ap (λ ws. [] ∷ ws) (sym (cond-true (ltb 0 (suc (length bs))) (cut bs) [] (lt-ltb 0 (suc (length bs)) (omega arith))))
 
@@ -30,8 +30,8 @@ cut-first (b ∷ bs) = cut-byte (inner b) b (leading inner bs) bs (cut-first bs)
 -- One turn of reading numbers: the space goes, then the first word is read, and the words behind it are left.
 module _ (n : Numbers) (left tail rest : List ℕ) (w : Part) (some : 0 < length left) where
   pub numbers-turn : (r : Result ℕ LineFault) → tail ≡ drop 1 left → w ≡ word-at (n .count + 1) (first-of tail)
-    → rest ≡ after-first tail → r ≡ number-in w
-    → numbers-from n (more-words left) ≡ and-then r (λ x. numbers-from (with-number n x) (more-words rest))
+      → rest ≡ after-first tail → r ≡ number-in w
+      → numbers-from n (more-words left) ≡ and-then r (λ x. numbers-from (with-number n x) (more-words rest))
   numbers-turn r t is behind said =
       ap (numbers-from n) (cond-true (ltb 0 (length left)) (cut (drop 1 left)) [] (lt-ltb 0 (length left) some))
       ∙ ap (λ l. numbers-from n (cut l)) (sym t) ∙ ap (numbers-from n) (cut-first tail)

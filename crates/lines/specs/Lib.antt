@@ -5,3 +5,4 @@ pub mod Words
 pub mod Numbers
 pub mod Steps
 pub mod Reading
+pub mod Writing

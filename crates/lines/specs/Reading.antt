@@ -65,15 +65,15 @@ misses-range (Stop b) = 0
 misses-range (Start b) = 0
 
 -- the step, unless a word of it is out of range
-abbrev within-range : Step → Result Step LineFault
+abbrev pub within-range : Step → Result Step LineFault
 within-range s = cond (eqb (misses-range s) 0) (Ok s) (Err (Range (misses-range s)))
 
 -- a step is one only where the whole line is a line
-abbrev made-step : Bool → Option Step → Result Step LineFault
+abbrev pub made-step : Bool → Option Step → Result Step LineFault
 made-step fits None = Err (Form 0)
 made-step fits (Some s) = cond fits (within-range s) (Err (Form 0))
 
-abbrev from-numbers : Letter → Bool → Result Numbers LineFault → Result Step LineFault
+abbrev pub from-numbers : Letter → Bool → Result Numbers LineFault → Result Step LineFault
 from-numbers x fits (Ok n) = made-step fits (step-of x n)
 from-numbers x fits (Err f) = Err f
 
@@ -81,11 +81,11 @@ from-numbers x fits (Err f) = Err f
 abbrev pub read-numbers : Letter → Bool → List ℕ → Result Step LineFault
 read-numbers x fits ws = from-numbers x fits (numbers-from no-numbers (more-words ws))
 
-abbrev append-body : ℕ → Result Body LineFault → Result Step LineFault
+abbrev pub append-body : ℕ → Result Body LineFault → Result Step LineFault
 append-body n (Ok b) = Ok (Append (ledger n) b)
 append-body n (Err f) = Err f
 
-abbrev append-text : Bool → Result ℕ LineFault → List ℕ → Result Step LineFault
+abbrev pub append-text : Bool → Result ℕ LineFault → List ℕ → Result Step LineFault
 append-text fits (Err f) rest = Err f
 append-text fits (Ok n) rest =
     cond (eqb (length rest) 0 || not fits) (Err (Form 0))
@@ -112,7 +112,7 @@ takes-text letter.Discard = false
 takes-text letter.Stop = false
 takes-text letter.Start = false
 
-abbrev by-letter : Result Letter LineFault → Bool → List ℕ → Result Step LineFault
+abbrev pub by-letter : Result Letter LineFault → Bool → List ℕ → Result Step LineFault
 by-letter (Ok x) fits ws = cond (takes-text x) (read-append fits ws) (read-numbers x fits ws)
 by-letter (Err f) fits ws = Err f
 

@@ -31,7 +31,7 @@ meant (word.Number ds n p) = number (ds .now) n p
 meant (word.Text bs p) = text (bs .now) p
 
 -- a number where the bytes write one
-abbrev number-or-text : ℕ → List ℕ → Option ℕ → Part
+abbrev pub number-or-text : ℕ → List ℕ → Option ℕ → Part
 number-or-text p w (Some n) = number w n p
 number-or-text p w None = text w p
 
@@ -69,7 +69,7 @@ abbrev pub printable : List ℕ → Bool
 printable [] = true
 printable (b ∷ bs) = cond (ltb b 32 || ltb 126 b) false (printable bs)
 
-abbrev body-or-range : ℕ → Bool → Option Body → Result Body LineFault
+abbrev pub body-or-range : ℕ → Bool → Option Body → Result Body LineFault
 body-or-range p ok None = Err (Range p)
 body-or-range p ok (Some b) = cond ok (Ok b) (Err (Range p))
 

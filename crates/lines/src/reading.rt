@@ -1,5 +1,6 @@
 // A whole line, read as the step that it asks for.
 ghost use mathlib.Core.Path.{_≡_};
+ghost use Rattle.lines.specs.Writing.{LinesKeepSteps};
 ghost use Rattle.lines.specs.Reading.{ended as ended-line, text-of, is-ledger, is-recoverer, ledger-word, recoverer-word, misses-range, read-append, read-numbers, read-line};
 use crate::faults::LineFault;
 use crate::letters::Letter;
@@ -14,10 +15,19 @@ use ledgers::steps::Step;
 pub const MAX_LINE: usize = 80;
 
 // The step that a line asks for. A line that is no step is refused, with the first word that by itself fails the question.
+// The law that stands on it: what is written for a step is read as that step, and no two steps are written alike.
 pub fn read_line(line: &[u8]) -> Result<Step, LineFault>
+    ensures value { λ r. ⌜ r ≡ read-line (now (line .entry)) ⌝ }
+    ensures law { λ _. ⌜ LinesKeepSteps ⌝ }
+{
+    read_ended(line, is_ended(line))
+}
+
+// The same, once it is known whether byte 10 ends the line.
+fn read_ended(line: &[u8], ended: bool) -> Result<Step, LineFault>
+    requires { ⌜ ended ≡ ended-line (now line) ⌝ }
     ensures { λ r. ⌜ r ≡ read-line (now (line .entry)) ⌝ }
 {
-    let ended = is_ended(line);
     let text = text_before_end(line, ended);
     let fits = ended && line.len() <= MAX_LINE;
     let (first, words) = first_word(text, 0);

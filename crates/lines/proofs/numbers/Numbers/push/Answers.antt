@@ -17,8 +17,9 @@ with-values k xs = record { values = xs; count = k }
 pub returns : need.returns
 returns c =
     let self = c .args .self .now in
-    elim (c .if-self-lt-MAX-NUMBERS .came)
-    [ then-self-lt-MAX-NUMBERS w ↦ ap counted (w .self-is)
-    | else-self-lt-MAX-NUMBERS w ↦
-        let full : length (self .values) ≤ self .count = omega arith in
-        ap counted (w .self-is) ∙ ap (with-values (self .count + 1)) (sym (set-past (self .values) (self .count) (c .args .value) full)) ]
+    elim (c .if-self-lt-MAX-NUMBERS .came) [
+      | then-self-lt-MAX-NUMBERS w ↦ ap counted (w .self-is)
+      | else-self-lt-MAX-NUMBERS w ↦
+          let full : length (self .values) ≤ self .count = omega arith in
+          ap counted (w .self-is) ∙ ap (with-values (self .count + 1)) (sym (set-past (self .values) (self .count) (c .args .value) full))
+    ]

@@ -1,0 +1,5 @@
+use Rattle.lines.proofs.ReadBack.{lines-keep-steps}
+use Rattle.lines.proofs.reading.read_line.Needs as need
+
+pub returns : need.returns
+returns c = record { value = c .read-ended .ensures; law = lines-keep-steps }
