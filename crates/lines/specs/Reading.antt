@@ -4,6 +4,7 @@ use mathlib.Core.Bool.{Bool, true, false, cond, _&&_, _||_, not}
 use mathlib.Core.List.{List}
 use lib.Dec.{eqb, leb, ltb}
 use lib.ListN.{length, getD, take, drop}
+use Rattle.std.specs.Results.{okPart}
 use Rattle.std.specs.declared.option.Option.{Option}
 use Rattle.std.specs.declared.option.Option.the-variants.{Some, None}
 use Rattle.std.specs.declared.result.Result.{Result}
@@ -33,6 +34,10 @@ text-of l = cond (ended l) (take (length l - 1) l) l
 -- and has at most 80 bytes with it
 abbrev pub is-line : List ℕ → Bool
 is-line l = ended l && leb (length l) 80
+
+-- the letter that a line begins with, whatever else is wrong with it
+abbrev pub first-letter : List ℕ → Option Letter
+first-letter l = okPart (letter-in (word-at 0 (first-of (text-of l))))
 
 -- Ranges.
 abbrev pub is-ledger : ℕ → Bool

@@ -1,7 +1,7 @@
 // A whole line, read as the step that it asks for.
 ghost use mathlib.Core.Path.{_≡_};
 ghost use Rattle.lines.specs.Writing.{LinesKeepSteps};
-ghost use Rattle.lines.specs.Reading.{ended as ended-line, text-of, is-ledger, is-recoverer, ledger-word, recoverer-word, misses-range, read-append, read-numbers, read-line};
+ghost use Rattle.lines.specs.Reading.{ended as ended-line, text-of, is-ledger, is-recoverer, ledger-word, recoverer-word, misses-range, first-letter, read-append, read-numbers, read-line};
 use crate::faults::LineFault;
 use crate::letters::Letter;
 use crate::numbers::Numbers;
@@ -142,4 +142,16 @@ fn recoverer_word(recoverer: RecovererId) -> usize
     ensures { λ r. ⌜ r ≡ recoverer-word recoverer ⌝ }
 {
     if is_recoverer(recoverer.0) { 0 } else { 1 }
+}
+
+// The letter that a line begins with, whatever else is wrong with it.
+pub fn line_letter(line: &[u8]) -> Option<Letter>
+    ensures { λ r. ⌜ r ≡ first-letter (now (line .entry)) ⌝ }
+{
+    let text = text_before_end(line, is_ended(line));
+    let (first, _) = first_word(text, 0);
+    match first.letter() {
+        Ok(letter) => Some(letter),
+        Err(_) => None,
+    }
 }

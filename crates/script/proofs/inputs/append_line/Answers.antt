@@ -1,0 +1,19 @@
+use mathlib.Core.Path.{ap, _∙_}
+use mathlib.Core.Bool.{cond}
+use mathlib.Core.List.{_++_}
+use lib.ListN.{replicate}
+use Rattle.std.specs.Of.Vec.{vec-items}
+use Rattle.std.specs.Results.{isOk}
+use Rattle.script.specs.Playing.{line-bytes}
+use Rattle.script.proofs.Lines.{front-over}
+use Rattle.script.proofs.inputs.append_line.Needs as need
+
+pub returns : need.returns
+returns c =
+    let said = c .print-line-length .ensures in
+    let before = vec-items (c .args .output .now) in
+    let printed = front-over (line-bytes (c .args .player .now) (c .args .line .now)) (replicate 128 0) (c .print-line-length .last .out) (c .print-line-length .result) (said .end) (said .out) in
+    record {
+      player = said .player;
+      output = c .extend-from-slice .ensures .items ∙ ap (λ t. cond (isOk (c .extend-from-slice .result)) (before ++ t) before) printed;
+    }

@@ -1,0 +1,4 @@
+pub mod Refusals
+pub mod Printing
+pub mod Playing
+pub mod Inputs
