@@ -11,9 +11,9 @@ use Rattle.std.specs.shelf.Lists.{leading}
 use Rattle.std.proofs.shelf.Lists.{length-drop}
 use Rattle.std.proofs.shelf.Tests.{cond-true, lt-ltb}
 use Rattle.std.specs.declared.result.Result.{Result}
-use Rattle.lines.specs.Words.{Part, inner, word-at, number-in, first-of, after-first}
+use Rattle.words.specs.Words.{Part, inner, word-at, number-in, first-of, after-first}
 use Rattle.lines.specs.Numbers.{cut, onto-first, more-words, and-then, with-number, numbers-from}
-use Rattle.lines.specs.declared.faults.LineFault.{LineFault}
+use Rattle.words.specs.declared.faults.LineFault.{LineFault}
 use Rattle.lines.specs.declared.numbers.Numbers.{Numbers}
 
 -- the first byte is part of the first word, or the space before the second

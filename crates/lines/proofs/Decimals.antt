@@ -17,8 +17,8 @@ use Rattle.std.proofs.shelf.Numerals.{Numerals, numerals-by-fold, tells-allDigi
 use Rattle.std.proofs.shelf.Tests.{and-parts, cond-false, or-from, ne-eqb, le-ltb, cases-lt}
 use Rattle.std.proofs.shelf.Ways.{tells}
 use Rattle.std.specs.declared.option.Option.the-variants.{Some, None}
-use Rattle.lines.specs.Numerals.{no-digit, onward, numeral}
-use Rattle.lines.specs.Words.{inner}
+use Rattle.words.specs.Numerals.{no-digit, onward, numeral}
+use Rattle.words.specs.Words.{inner}
 
 -- the number that digits write after the number n
 abbrev value-on : ℕ → List ℕ → ℕ

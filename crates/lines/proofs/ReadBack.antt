@@ -24,16 +24,16 @@ use Rattle.ledgers.specs.declared.bookie_lists.BookieList.{BookieList}
 use Rattle.ledgers.specs.declared.ids.LedgerId.{LedgerId}
 use Rattle.ledgers.specs.declared.steps.Step.{Step}
 use Rattle.ledgers.specs.declared.steps.Step.the-variants.{Create, Append, Resend, ChangeEnsemble, Close, Recover, AskAgain, Finish, Deliver, Duplicate, Discard, Stop, Start}
-use Rattle.lines.specs.Letters.{byte-of}
-use Rattle.lines.specs.Words.{inner, number-or-text, word-at, first-of, after-first, letter-in, number-in, body-in, body-or-range, printable, text}
-use Rattle.lines.specs.Numerals.{numeral}
+use Rattle.words.specs.Letters.{byte-of}
+use Rattle.words.specs.Words.{inner, number-or-text, word-at, first-of, after-first, letter-in, number-in, body-in, body-or-range, printable, text}
+use Rattle.words.specs.Numerals.{numeral}
 use Rattle.lines.specs.Numbers.{cut, more-words, and-then, no-numbers, with-number, numbers-from}
 use Rattle.lines.specs.Steps.{ledger, create-of, step-of}
 use Rattle.lines.specs.Reading.{ended, text-of, is-line, is-ledger, misses-range, made-step, from-numbers, read-numbers, append-body, append-text, read-append, takes-text, by-letter, read-line}
 use Rattle.lines.specs.Writing.{letter-for, numbers-in, text-in, spaced, written, InScript, LinesKeepSteps}
-use Rattle.lines.specs.declared.faults.LineFault.{LineFault}
-use Rattle.lines.specs.declared.letters.Letter.{Letter}
-use Rattle.lines.specs.declared.letters.Letter.the-variants as letter
+use Rattle.words.specs.declared.faults.LineFault.{LineFault}
+use Rattle.words.specs.declared.letters.Letter.{Letter}
+use Rattle.words.specs.declared.letters.Letter.the-variants as letter
 use Rattle.lines.specs.declared.numbers.Numbers.{Numbers}
 use Rattle.lines.proofs.Cuts.{cut-first}
 use Rattle.lines.proofs.Decimals.{few-digits, numeral-decimal, inner-decimal}

@@ -6,8 +6,8 @@ use lib.Dec.{eqb, ltb}
 use lib.ListN.{length, set, drop, replicate}
 use Rattle.std.specs.declared.result.Result.{Result}
 use Rattle.std.specs.declared.result.Result.the-variants.{Ok, Err}
-use Rattle.lines.specs.Words.{inner, word-at, number-in}
-use Rattle.lines.specs.declared.faults.LineFault.{LineFault}
+use Rattle.words.specs.Words.{inner, word-at, number-in}
+use Rattle.words.specs.declared.faults.LineFault.{LineFault}
 use Rattle.lines.specs.declared.numbers.Numbers.{Numbers}
 
 abbrev pub onto-first : ℕ → List (List ℕ) → List (List ℕ)

@@ -14,13 +14,13 @@ use Rattle.ledgers.specs.declared.ids.LedgerId.{LedgerId}
 use Rattle.ledgers.specs.declared.ids.RecovererId.{RecovererId}
 use Rattle.ledgers.specs.declared.steps.Step.{Step}
 use Rattle.ledgers.specs.declared.steps.Step.the-variants.{Create, Append, Resend, ChangeEnsemble, Close, Recover, AskAgain, Finish, Deliver, Duplicate, Discard, Stop, Start}
-use Rattle.lines.specs.Words.{text, word-at, first-of, after-first, letter-in, number-in, body-in}
+use Rattle.words.specs.Words.{text, word-at, first-of, after-first, letter-in, number-in, body-in}
 use Rattle.lines.specs.Numbers.{no-numbers, numbers-from, more-words}
 use Rattle.lines.specs.Steps.{ledger, step-of}
-use Rattle.lines.specs.declared.faults.LineFault.{LineFault}
-use Rattle.lines.specs.declared.faults.LineFault.the-variants.{Form, Range}
-use Rattle.lines.specs.declared.letters.Letter.{Letter}
-use Rattle.lines.specs.declared.letters.Letter.the-variants as letter
+use Rattle.words.specs.declared.faults.LineFault.{LineFault}
+use Rattle.words.specs.declared.faults.LineFault.the-variants.{Form, Range}
+use Rattle.words.specs.declared.letters.Letter.{Letter}
+use Rattle.words.specs.declared.letters.Letter.the-variants as letter
 use Rattle.lines.specs.declared.numbers.Numbers.{Numbers}
 
 -- a line ends with byte 10

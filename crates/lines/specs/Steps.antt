@@ -16,8 +16,8 @@ use Rattle.ledgers.specs.declared.ids.Position.{Position}
 use Rattle.ledgers.specs.declared.ids.RecovererId.{RecovererId}
 use Rattle.ledgers.specs.declared.steps.Step.{Step}
 use Rattle.ledgers.specs.declared.steps.Step.the-variants.{Create, Append, Resend, ChangeEnsemble, Close, Recover, AskAgain, Finish, Deliver, Duplicate, Discard, Stop, Start}
-use Rattle.lines.specs.declared.letters.Letter.{Letter}
-use Rattle.lines.specs.declared.letters.Letter.the-variants as letter
+use Rattle.words.specs.declared.letters.Letter.{Letter}
+use Rattle.words.specs.declared.letters.Letter.the-variants as letter
 use Rattle.lines.specs.declared.numbers.Numbers.{Numbers}
 
 abbrev at-place : Numbers → ℕ → ℕ

@@ -11,11 +11,11 @@ use Rattle.ledgers.specs.Bodies.{content}
 use Rattle.ledgers.specs.BookieLists.{listed}
 use Rattle.ledgers.specs.declared.steps.Step.{Step}
 use Rattle.ledgers.specs.declared.steps.Step.the-variants.{Create, Append, Resend, ChangeEnsemble, Close, Recover, AskAgain, Finish, Deliver, Duplicate, Discard, Stop, Start}
-use Rattle.lines.specs.Letters.{byte-of}
-use Rattle.lines.specs.Words.{printable}
+use Rattle.words.specs.Letters.{byte-of}
+use Rattle.words.specs.Words.{printable}
 use Rattle.lines.specs.Reading.{misses-range, read-line}
-use Rattle.lines.specs.declared.letters.Letter.{Letter}
-use Rattle.lines.specs.declared.letters.Letter.the-variants as letter
+use Rattle.words.specs.declared.letters.Letter.{Letter}
+use Rattle.words.specs.declared.letters.Letter.the-variants as letter
 
 -- the letter of a step
 abbrev pub letter-for : Step → Letter

@@ -4,9 +4,6 @@ ghost use Prim.Native.Nat.{_^_, _<_, _+_};
 ghost use lib.ListN.{length};
 ghost use Rattle.lines.specs.Numbers.{no-numbers, with-number, numbers-from, more-words};
 ghost use Rattle.lines.specs.Steps.{create-of, step-of};
-use crate::faults::LineFault;
-use crate::letters::Letter;
-use crate::words::first_word;
 use ledgers::bookie_lists::BookieList;
 use ledgers::ids::BookieId;
 use ledgers::ids::LedgerId;
@@ -14,6 +11,9 @@ use ledgers::ids::MessagePlace;
 use ledgers::ids::Position;
 use ledgers::ids::RecovererId;
 use ledgers::steps::Step;
+use words::Letter;
+use words::LineFault;
+use words::first_word;
 
 // A create has the most: ledger, three sizes and five bookies.
 pub const MAX_NUMBERS: usize = 9;

@@ -2,14 +2,14 @@
 ghost use mathlib.Core.Path.{_≡_};
 ghost use Rattle.lines.specs.Writing.{LinesKeepSteps};
 ghost use Rattle.lines.specs.Reading.{ended as ended-line, text-of, is-ledger, is-recoverer, ledger-word, recoverer-word, misses-range, first-letter, read-append, read-numbers, read-line};
-use crate::faults::LineFault;
-use crate::letters::Letter;
 use crate::numbers::Numbers;
-use crate::words::Word;
-use crate::words::first_word;
 use ledgers::ids::LedgerId;
 use ledgers::ids::RecovererId;
 use ledgers::steps::Step;
+use words::Letter;
+use words::LineFault;
+use words::Word;
+use words::first_word;
 
 // With the byte 10 at its end.
 pub const MAX_LINE: usize = 80;

@@ -20,14 +20,14 @@ front-over s memory after n long is = ap (take (n - 0)) is ∙ take-at s (drop (
 
 -- a byte that is no end belongs to the line behind it, if there is one
 onto-first-line : (b : ℕ) (bs : List ℕ)
-  → (0 < length bs → lines-of bs ≡ take (line-length bs) bs ∷ lines-of (drop (line-length bs) bs))
-  → onto-line b (lines-of bs) ≡ take (1 + line-length bs) (b ∷ bs) ∷ lines-of (drop (1 + line-length bs) (b ∷ bs))
+    → (0 < length bs → lines-of bs ≡ take (line-length bs) bs ∷ lines-of (drop (line-length bs) bs))
+    → onto-line b (lines-of bs) ≡ take (1 + line-length bs) (b ∷ bs) ∷ lines-of (drop (1 + line-length bs) (b ∷ bs))
 onto-first-line b [] ih = refl
 onto-first-line b (x ∷ xs) ih = rw (one-add (line-length (x ∷ xs))) (ap (onto-line b) (ih (omega arith)))
 
 first-byte : (t : Bool) (b : ℕ) (bs : List ℕ)
-  → (0 < length bs → lines-of bs ≡ take (line-length bs) bs ∷ lines-of (drop (line-length bs) bs))
-  → cond t ((b ∷ []) ∷ lines-of bs) (onto-line b (lines-of bs))
+    → (0 < length bs → lines-of bs ≡ take (line-length bs) bs ∷ lines-of (drop (line-length bs) bs))
+    → cond t ((b ∷ []) ∷ lines-of bs) (onto-line b (lines-of bs))
     ≡ take (cond t 1 (1 + line-length bs)) (b ∷ bs) ∷ lines-of (drop (cond t 1 (1 + line-length bs)) (b ∷ bs))
 first-byte true b bs ih = refl
 first-byte false b bs ih = onto-first-line b bs ih
@@ -53,14 +53,14 @@ module _ (p : Player) (left line rest : List ℕ) (n : ℕ) (some : 0 < length l
       ∙ ap (λ l. l ∷ lines-of (drop n left)) (sym front) ∙ ap (λ l. line ∷ lines-of l) (sym back)
 
   pub turn-bytes : (before after : List ℕ) (p′ : Player) → line ≡ take n left → rest ≡ drop n left → p′ ≡ counted p line
-    → after ≡ before ++ line-bytes p line → after ++ all-bytes p′ (lines-of rest) ≡ before ++ all-bytes p (lines-of left)
+      → after ≡ before ++ line-bytes p line → after ++ all-bytes p′ (lines-of rest) ≡ before ++ all-bytes p (lines-of left)
   turn-bytes before after p′ front back counts is =
       ap (λ l. l ++ all-bytes p′ (lines-of rest)) is ∙ append-assoc before (line-bytes p line) (all-bytes p′ (lines-of rest))
       ∙ ap (λ q. before ++ (line-bytes p line ++ all-bytes q (lines-of rest))) counts
       ∙ ap (λ ls. before ++ all-bytes p ls) (sym (left-lines front back))
 
   pub turn-counts : (p′ : Player) → line ≡ take n left → rest ≡ drop n left → p′ ≡ counted p line
-    → all-counted p′ (lines-of rest) ≡ all-counted p (lines-of left)
+      → all-counted p′ (lines-of rest) ≡ all-counted p (lines-of left)
   turn-counts p′ front back counts =
       ap (λ q. all-counted q (lines-of rest)) counts ∙ ap (all-counted p) (sym (left-lines front back))
 

@@ -33,19 +33,19 @@ pub record Wrote (d : List ℕ) (b : ℕ) (o : List ℕ) (e : ℕ) (s : List ℕ
   pub at : e ≡ b + length s
 
 pub first : (d : List ℕ) (b : ℕ) {o : List ℕ} {e : ℕ} (s : List ℕ) → b ≤ length d → e ≡ b + length s
-  → o ≡ paste d b s (length s) → Wrote d b o e s
+    → o ≡ paste d b s (length s) → Wrote d b o e s
 first d b s low at is = record { low = low; is = is; at = at }
 
 -- one piece more
 pub then : {d o p : List ℕ} {b e f : ℕ} {s : List ℕ} (t : List ℕ) → Wrote d b o e s → f ≡ e + length t
-  → p ≡ paste o e t (length t) → Wrote d b p f (s ++ t)
+    → p ≡ paste o e t (length t) → Wrote d b p f (s ++ t)
 then {d} {o} {p} {b} {e} {f} {s} t w g is =
     let long = length-append s t in
     record {
       low = w .low;
       is =
-        is ∙ ap (λ l. paste l e t (length t)) (w .is) ∙ ap (λ k. paste (paste d b s (length s)) k t (length t)) (w .at)
-        ∙ paste-paste d b s t (length s) (length t) refl refl (w .low) ∙ ap (paste d b (s ++ t)) (sym long);
+          is ∙ ap (λ l. paste l e t (length t)) (w .is) ∙ ap (λ k. paste (paste d b s (length s)) k t (length t)) (w .at)
+          ∙ paste-paste d b s t (length s) (length t) refl refl (w .low) ∙ ap (paste d b (s ++ t)) (sym long);
       at = omega (arith, w .at);
     }
 

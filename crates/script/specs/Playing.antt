@@ -12,7 +12,7 @@ use Rattle.std.specs.declared.result.Result.the-variants.{Ok, Err}
 use Rattle.ledgers.specs.declared.steps.Step.{Step}
 use Rattle.ledgers.specs.declared.steps.Step.the-variants.{Create, Append, Resend, ChangeEnsemble, Close, Recover, AskAgain, Finish, Deliver, Duplicate, Discard, Stop, Start}
 use Rattle.lines.specs.Reading.{first-letter, read-line}
-use Rattle.lines.specs.declared.faults.LineFault.{LineFault}
+use Rattle.words.specs.declared.faults.LineFault.{LineFault}
 use Rattle.script.specs.Printing.{answer-line, totals-line, over}
 use Rattle.script.specs.declared.players.Player.{Player}
 use Rattle.script.specs.declared.refusals.Refusal.{Refusal}

@@ -8,8 +8,8 @@ use Rattle.std.specs.declared.option.Option.{Option}
 use Rattle.std.specs.declared.option.Option.the-variants.{Some, None}
 use Rattle.std.specs.declared.result.Result.{Result}
 use Rattle.std.specs.declared.result.Result.the-variants.{Ok, Err}
-use Rattle.lines.specs.Letters.{byte-of}
-use Rattle.lines.specs.declared.letters.Letter.{Letter}
+use Rattle.words.specs.Letters.{byte-of}
+use Rattle.words.specs.declared.letters.Letter.{Letter}
 use Rattle.script.specs.Refusals.{refusal-number, refusal-word}
 use Rattle.script.specs.declared.refusals.Refusal.{Refusal}
 

@@ -1,6 +1,6 @@
 -- The refusals and their numbers.
 use Prim.Native.Nat.{ℕ}
-use Rattle.lines.specs.Faults.{line-number, line-word}
+use Rattle.words.specs.Faults.{line-number, line-word}
 use Rattle.script.specs.declared.refusals.Refusal.{Refusal}
 use Rattle.script.specs.declared.refusals.Refusal.the-variants.{Output, Line, Absent}
 

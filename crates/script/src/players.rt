@@ -10,8 +10,8 @@ use crate::printing::print_totals;
 use crate::refusals::Refusal;
 use crate::refusals::RefusalFromLine;
 use ledgers::steps::Step;
-use lines::reading::line_letter;
-use lines::reading::read_line;
+use lines::line_letter;
+use lines::read_line;
 
 #[derive(Clone, Copy)]
 pub struct Player {

@@ -8,7 +8,7 @@ ghost use lib.Seq.{paste};
 ghost use Rattle.std.specs.Written.{decimal, signed};
 ghost use Rattle.script.specs.Printing.{letter-byte, number-of, value-bytes, answer-line, totals-line, over};
 use crate::refusals::Refusal;
-use lines::letters::Letter;
+use words::Letter;
 
 // No printed line is longer.
 pub const OUTPUT_BYTES: usize = 128;

@@ -2,7 +2,7 @@
 ghost use mathlib.Core.Path.{_≡_};
 ghost use Rattle.script.specs.Refusals.{refusal-number, refusal-word};
 ghost use Rattle.script.specs.declared.refusals.Refusal.the-variants.{Line as of-line};
-use lines::faults::LineFault;
+use words::LineFault;
 
 #[derive(Clone, Copy)]
 pub enum Refusal {

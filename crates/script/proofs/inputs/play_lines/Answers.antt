@@ -16,12 +16,12 @@ loop-left-again c =
     let said = c .in-Continue-append-line .ensures tt in
     let parts = c .split-at .ensures in
     let bytes =
-      turn-bytes (c .loop-left .player) (c .loop-left .left .now) (c .split-at .result .0 .now) (c .split-at .result .1 .now) (c .first-line .result)
-      (c .loop-left-test .taken) (c .first-line .ensures .value) (vec-items (c .loop-left .output)) (vec-items (c .append-line .last .output))
-      (c .append-line .last .player) (parts .front) (parts .back) (said .player) (said .output) in
+    turn-bytes (c .loop-left .player) (c .loop-left .left .now) (c .split-at .result .0 .now) (c .split-at .result .1 .now) (c .first-line .result)
+    (c .loop-left-test .taken) (c .first-line .ensures .value) (vec-items (c .loop-left .output)) (vec-items (c .append-line .last .output))
+    (c .append-line .last .player) (parts .front) (parts .back) (said .player) (said .output) in
     let counts =
-      turn-counts (c .loop-left .player) (c .loop-left .left .now) (c .split-at .result .0 .now) (c .split-at .result .1 .now) (c .first-line .result)
-      (c .loop-left-test .taken) (c .first-line .ensures .value) (c .append-line .last .player) (parts .front) (parts .back) (said .player) in
+    turn-counts (c .loop-left .player) (c .loop-left .left .now) (c .split-at .result .0 .now) (c .split-at .result .1 .now) (c .first-line .result)
+    (c .loop-left-test .taken) (c .first-line .ensures .value) (c .append-line .last .player) (parts .front) (parts .back) (said .player) in
     (bytes ∙ c .loop-left .inv .0, counts ∙ c .loop-left .inv .1)
 
 pub returns : need.returns

@@ -25,7 +25,7 @@ returns c =
     let i = then (10 ∷ []) h (c .put-byte .ensures .end) (c .put-byte .ensures .after) in
     let value = value-bytes (c .args .result) in
     let is : line-with (c .args .line) (c .printed-letter .result) (c .printed-refusal .result) value ≡ answer-line (c .args .line) (c .args .letter) (c .args .result) =
-      ap (λ x. line-with (c .args .line) x (c .printed-refusal .result) value) (c .printed-letter .ensures)
-      ∙ ap (λ n. line-with (c .args .line) (letter-byte (c .args .letter)) n value) (c .printed-refusal .ensures) in
+    ap (λ x. line-with (c .args .line) x (c .printed-refusal .result) value) (c .printed-letter .ensures)
+    ∙ ap (λ n. line-with (c .args .line) (letter-byte (c .args .letter)) n value) (c .printed-refusal .ensures) in
     let all = subst (Wrote (c .args .out .now) 0 (c .put-byte .last .out) (c .put-byte .result)) is i in
     record { end = all .at ∙ zero-add _; bound = omega arith; after = all .is ∙ over-front (c .args .out .now) (answer-line (c .args .line) (c .args .letter) (c .args .result)) }

@@ -4,7 +4,7 @@ use native.Mathlib.Omega.{arith}
 use lib.ListN.{length}
 use Rattle.std.proofs.shelf.Results.{err-from-errBy}
 use Rattle.std.specs.declared.result.Result.the-variants.{Ok, Err}
-use Rattle.lines.specs.Words.{meant}
+use Rattle.words.specs.Words.{meant}
 use Rattle.lines.specs.Numbers.{numbers-from, more-words}
 use Rattle.lines.proofs.Cuts.{numbers-turn, fewer-left}
 use Rattle.lines.proofs.numbers.Numbers.read.Needs as need

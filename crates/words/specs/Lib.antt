@@ -1,0 +1,4 @@
+pub mod Letters
+pub mod Faults
+pub mod Numerals
+pub mod Words
