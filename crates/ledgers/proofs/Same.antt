@@ -8,7 +8,7 @@ use native.Mathlib.Bridge.{le-prop}
 use native.Mathlib.Nat.{ℕ-set}
 use native.Mathlib.Omega.{arith}
 use lib.ListN.{length, take, replicate}
-use Rattle.std.proofs.shelf.Lists.{length-take-le, take-all}
+use Rattle.std.proofs.shelf.Lists.{length-take, length-take-le, take-all, take-at}
 use Rattle.std.proofs.shelf.Tests.{cond-true, le-leb}
 use Rattle.std.specs.declared.option.Option.the-variants.{Some}
 use Rattle.ledgers.specs.Padding.{padded}
@@ -48,6 +48,17 @@ repadded room n items long few is =
     let least : n ≡ min room (length (take n items)) = omega arith in
     is ∙ ap (λ k. take n items ++ replicate (room - k) 0) least
     ∙ ap (λ front. front ++ replicate (room - min room (length (take n items))) 0) (sym (take-all room (take n items) (omega arith)))
+
+-- a list that the room takes is found in front of its padding
+front-padded : (room : ℕ) (xs : List ℕ) → length xs ≤ room → take (min room (length xs)) (padded room xs) ≡ xs
+front-padded room xs few =
+    take-at (take room xs) (replicate (room - min room (length xs)) 0) (min room (length xs)) (length-take room xs) ∙ take-all room xs few
+
+pub content-of : (bs : List ℕ) → length bs ≤ 40 → content (body-of bs) ≡ bs
+content-of bs few = front-padded 40 bs few
+
+pub listed-of : (bs : List ℕ) → length bs ≤ 5 → listed (list-of bs) ≡ bs
+listed-of bs few = front-padded 5 bs few
 
 module _ (b : Body) where
   pub length-content : length (content b) ≡ b .len

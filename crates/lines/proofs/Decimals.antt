@@ -20,12 +20,16 @@ use Rattle.std.specs.declared.option.Option.the-variants.{Some, None}
 use Rattle.words.specs.Numerals.{no-digit, onward, numeral}
 use Rattle.words.specs.Words.{inner}
 
+-- five digits write the number
+abbrev pub Short : ℕ → Type 0
+Short n = n < 100000
+
 -- the number that digits write after the number n
-abbrev value-on : ℕ → List ℕ → ℕ
+abbrev pub value-on : ℕ → List ℕ → ℕ
 value-on n [] = n
 value-on n (b ∷ bs) = value-on (n * 10 + (b - 48)) bs
 
-own : Numerals (λ ds. allDigits ds ≡ true) (value-on 0)
+pub own : Numerals (λ ds. allDigits ds ≡ true) (value-on 0)
 own = numerals-by-fold _ tells-allDigits value-on (search needs)
 
 -- a digit is no other byte, and no space
@@ -42,7 +46,7 @@ inner-digits : (ds : List ℕ) → allDigits ds ≡ true → All (λ b. inner b 
 inner-digits [] h = tt
 inner-digits (b ∷ bs) h = let p = and-parts (asciiDigit b) (allDigits bs) h in (is-digit b (p .0) .1, inner-digits bs (p .1))
 
-module _ (n : ℕ) (short : n < 100000) where
+module _ (n : ℕ) (short : Short n) where
   pub few-digits : length (decimal n) ≤ 5
   few-digits = length-decimal-le 5 n (omega arith) (omega arith) (omega arith)
 

@@ -1,3 +1,5 @@
 pub mod Cuts
 pub mod Decimals
 pub mod ReadBack
+pub mod OnlyWritten
+pub mod Law

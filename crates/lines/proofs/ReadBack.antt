@@ -30,17 +30,13 @@ use Rattle.words.specs.Numerals.{numeral}
 use Rattle.lines.specs.Numbers.{cut, more-words, and-then, no-numbers, with-number, numbers-from}
 use Rattle.lines.specs.Steps.{ledger, create-of, step-of}
 use Rattle.lines.specs.Reading.{ended, text-of, is-line, is-ledger, misses-range, made-step, from-numbers, read-numbers, append-body, append-text, read-append, takes-text, by-letter, read-line}
-use Rattle.lines.specs.Writing.{letter-for, numbers-in, text-in, spaced, written, InScript, LinesKeepSteps}
+use Rattle.lines.specs.Writing.{letter-for, numbers-in, text-in, spaced, written, InScript}
 use Rattle.words.specs.declared.faults.LineFault.{LineFault}
 use Rattle.words.specs.declared.letters.Letter.{Letter}
 use Rattle.words.specs.declared.letters.Letter.the-variants as letter
 use Rattle.lines.specs.declared.numbers.Numbers.{Numbers}
 use Rattle.lines.proofs.Cuts.{cut-first}
-use Rattle.lines.proofs.Decimals.{few-digits, numeral-decimal, inner-decimal}
-
--- five digits write the number
-abbrev Short : ℕ → Type 0
-Short n = n < 100000
+use Rattle.lines.proofs.Decimals.{Short, few-digits, numeral-decimal, inner-decimal}
 
 -- A word ends where a gap begins: at the end of the text or at a space.
 module _ (ws : List ℕ) (gap : leading inner ws ≡ 0) where
@@ -79,7 +75,7 @@ number-read p n behind short =
     ∙ ap (number-or-text p (decimal n)) (numeral-decimal n short))
 
 -- numbers after those that were read
-abbrev all-with : Numbers → List ℕ → Numbers
+abbrev pub all-with : Numbers → List ℕ → Numbers
 all-with n [] = n
 all-with n (x ∷ xs) = all-with (with-number n x) xs
 
@@ -154,11 +150,11 @@ module _ (s : Step) (h : InScript s) where
       ∙ cond-true _ _ _ (eq-eqb _ 0 (h .ranged))
 
 -- A create: its bookies are the numbers behind the fourth.
-abbrev created : ℕ → ℕ → ℕ → ℕ → Option BookieList → Option Step
+abbrev pub created : ℕ → ℕ → ℕ → ℕ → Option BookieList → Option Step
 created l e w k None = None
 created l e w k (Some bs) = Some (Create (ledger l) e w k bs)
 
-create-listed : (l e w k : ℕ) (xs : List ℕ) → 0 < length xs → length xs ≤ 5
+pub create-listed : (l e w k : ℕ) (xs : List ℕ) → 0 < length xs → length xs ≤ 5
     → create-of (all-with no-numbers (l ∷ e ∷ w ∷ k ∷ xs)) ≡ created l e w k (made-list xs)
 create-listed l e w k [] some few = absurd (omega arith)
 create-listed l e w k (a ∷ []) some few = refl
@@ -213,10 +209,3 @@ read-back (Duplicate m) h = numbers-back (Duplicate m) h refl refl (omega arith)
 read-back (Discard m) h = numbers-back (Discard m) h refl refl (omega arith) refl
 read-back (Stop b) h = numbers-back (Stop b) h refl refl (omega arith) refl
 read-back (Start b) h = numbers-back (Start b) h refl refl (omega arith) refl
-
-pub lines-keep-steps : LinesKeepSteps
-lines-keep-steps =
-    record {
-      read-back = read-back;
-      apart = λ s t h k e. let r : Ok s ≡ Ok t = sym (read-back s h) ∙ ap read-line e ∙ read-back t k in cc;
-    }

@@ -20,7 +20,7 @@ use Rattle.words.specs.declared.letters.Letter.{Letter}
 use Rattle.words.specs.declared.letters.Letter.the-variants as letter
 use Rattle.lines.specs.declared.numbers.Numbers.{Numbers}
 
-abbrev at-place : Numbers → ℕ → ℕ
+abbrev pub at-place : Numbers → ℕ → ℕ
 at-place n i = getD (n .values) i 0
 
 abbrev pub ledger : ℕ → LedgerId
@@ -38,7 +38,7 @@ recoverer n = record { 0 = n }
 abbrev pub message : ℕ → MessagePlace
 message n = record { 0 = n }
 
-abbrev create-with : Numbers → Option BookieList → Option Step
+abbrev pub create-with : Numbers → Option BookieList → Option Step
 create-with n None = None
 create-with n (Some bs) = Some (Create (ledger (at-place n 0)) (at-place n 1) (at-place n 2) (at-place n 3) bs)
 
@@ -48,7 +48,7 @@ create-of n =
     cond (ltb (n .count) 5 || ltb 9 (n .count)) None (create-with n (made-list (between 4 (n .count) (n .values))))
 
 -- a step that takes just so many numbers
-abbrev taking : ℕ → Numbers → Step → Option Step
+abbrev pub taking : ℕ → Numbers → Step → Option Step
 taking k n s = cond (eqb (n .count) k) (Some s) None
 
 -- the step that numbers make after a letter, if they are as many as it takes; an append takes no numbers alone

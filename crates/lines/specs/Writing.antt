@@ -98,8 +98,11 @@ pub record InScript (s : Step) : Type 0 where
   pub short : All (λ n. n < 100000) (numbers-in s)
   pub said : sayable s ≡ true
 
--- The law of lines: for each step within the script's ranges the line that is written for it is read as that step, and no
--- two such steps are written alike.
+-- The law of lines.
 pub record LinesKeepSteps : Type 0 where
+  -- for each step within the script's ranges the line that is written for it is read as that step,
   pub read-back : (s : Step) → InScript s → read-line (written s) ≡ Ok s
+  -- no two such steps are written alike,
   pub apart : (s t : Step) → InScript s → InScript t → written s ≡ written t → s ≡ t
+  -- and no other line is read as a step
+  pub only : (l : List ℕ) (s : Step) → read-line l ≡ Ok s → InScript s × (l ≡ written s)

@@ -15,7 +15,8 @@ use words::first_word;
 pub const MAX_LINE: usize = 80;
 
 // The step that a line asks for. A line that is no step is refused, with the first word that by itself fails the question.
-// The law that stands on it: what is written for a step is read as that step, and no two steps are written alike.
+// The law that stands on it: what is written for a step is read as that step, no two steps are written alike, and no other
+// line is read as a step.
 pub fn read_line(line: &[u8]) -> Result<Step, LineFault>
     ensures value { λ r. ⌜ r ≡ read-line (now (line .entry)) ⌝ }
     ensures law { λ _. ⌜ LinesKeepSteps ⌝ }

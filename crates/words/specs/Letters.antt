@@ -24,7 +24,7 @@ byte-of Stop = 83
 byte-of Start = 84
 
 -- the letter written as b, unless it is none of those before
-abbrev written-as : Letter → ℕ → Option Letter → Option Letter
+abbrev pub written-as : Letter → ℕ → Option Letter → Option Letter
 written-as x b others = cond (eqb b (byte-of x)) (Some x) others
 
 abbrev pub letter-of : ℕ → Option Letter

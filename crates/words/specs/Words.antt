@@ -50,7 +50,7 @@ first-of l = take (leading inner l) l
 abbrev pub after-first : List ℕ → List ℕ
 after-first l = drop (leading inner l) l
 
-abbrev known-or-form : ℕ → Option Letter → Result Letter LineFault
+abbrev pub known-or-form : ℕ → Option Letter → Result Letter LineFault
 known-or-form p (Some x) = Ok x
 known-or-form p None = Err (Form p)
 

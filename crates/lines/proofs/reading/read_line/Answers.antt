@@ -1,4 +1,4 @@
-use Rattle.lines.proofs.ReadBack.{lines-keep-steps}
+use Rattle.lines.proofs.Law.{lines-keep-steps}
 use Rattle.lines.proofs.reading.read_line.Needs as need
 
 pub returns : need.returns
