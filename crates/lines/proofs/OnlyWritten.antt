@@ -1,5 +1,5 @@
 -- A line that is read as a step is the line that is written for it.
-use Prim.Native.Nat.{ℕ, min, zero, suc, _+_, _-_, _*_, _^_, _<_, _≤_}
+use Prim.Native.Nat.{ℕ, min, zero, suc, _+_, _-_, _*_, _<_, _≤_}
 use mathlib.Core.Path.{_≡_, refl, sym, ap, subst, _∙_}
 use mathlib.Core.Bool.{Bool, true, false, cond, _&&_, _||_, not}
 use mathlib.Core.List.{List, [], _∷_, _++_}
@@ -16,7 +16,7 @@ use Rattle.std.specs.Text.{asciiDigit}
 use Rattle.std.proofs.shelf.Decimals.{decimal-value}
 use Rattle.std.proofs.shelf.Lists.{append-nil, take-append-drop, drop-more, drop-all, length-drop}
 use Rattle.std.proofs.shelf.Numerals.{value-short}
-use Rattle.std.proofs.shelf.Tests.{cond-true, cond-false, cases-bool, and-parts, or-parts, and-from, eqb-true, ltb-true, eqb-false, ltb-false, leb-true, lt-ltb, le-leb, ne-eqb, not-false, false≢true}
+use Rattle.std.proofs.shelf.Tests.{cond-true, cond-false, cases-bool, and-parts, or-parts, and-from, eqb-true, ltb-true, ltb-false, leb-true, lt-ltb, le-leb, ne-eqb, not-false, false≢true}
 use Rattle.std.proofs.shelf.Ways.{tells}
 use Rattle.std.specs.declared.option.Option.{Option}
 use Rattle.std.specs.declared.option.Option.the-variants.{Some, None}

@@ -1,12 +1,12 @@
 -- What is written for a step is read as that step.
 use Prim.Native.Nat.{ℕ, suc, _+_, _-_, _*_, _<_, _≤_}
 use mathlib.Core.Path.{_≡_, refl, sym, ap, _∙_}
-use mathlib.Core.Bool.{Bool, true, false, cond, _&&_, _||_, not}
+use mathlib.Core.Bool.{true, false, cond, _&&_, _||_, not}
 use mathlib.Core.List.{List, [], _∷_, _++_, map}
 use native.Mathlib.Numerals.{one-add}
 use native.Mathlib.Omega.{arith}
-use lib.Dec.{eqb, leb, ltb}
-use lib.ListN.{length, getD, take, drop}
+use lib.Dec.{eqb, ltb}
+use lib.ListN.{length}
 use Rattle.std.specs.Written.{decimal}
 use Rattle.std.specs.shelf.Lists.{All, leading}
 use Rattle.std.proofs.shelf.Lists.{append-nil, length-append, length-push, getD-push, take-at, drop-at}
@@ -14,9 +14,8 @@ use Rattle.std.proofs.shelf.Tests.{cond-true, cond-false, and-from, and-left, l
 use Rattle.std.proofs.shelf.Ways.{tells}
 use Rattle.std.specs.declared.option.Option.{Option}
 use Rattle.std.specs.declared.option.Option.the-variants.{Some, None}
-use Rattle.std.specs.declared.result.Result.{Result}
-use Rattle.std.specs.declared.result.Result.the-variants.{Ok, Err}
-use Rattle.ledgers.specs.Bodies.{content, made-body}
+use Rattle.std.specs.declared.result.Result.the-variants.{Ok}
+use Rattle.ledgers.specs.Bodies.{content}
 use Rattle.ledgers.specs.BookieLists.{listed, made-list}
 use Rattle.ledgers.proofs.Same.{length-content, made-of-content, length-listed, made-of-listed}
 use Rattle.ledgers.specs.declared.bodies.Body.{Body}
@@ -25,13 +24,11 @@ use Rattle.ledgers.specs.declared.ids.LedgerId.{LedgerId}
 use Rattle.ledgers.specs.declared.steps.Step.{Step}
 use Rattle.ledgers.specs.declared.steps.Step.the-variants.{Create, Append, Resend, ChangeEnsemble, Close, Recover, AskAgain, Finish, Deliver, Duplicate, Discard, Stop, Start}
 use Rattle.words.specs.Letters.{byte-of}
-use Rattle.words.specs.Words.{inner, number-or-text, word-at, first-of, after-first, letter-in, number-in, body-in, body-or-range, printable, text}
-use Rattle.words.specs.Numerals.{numeral}
+use Rattle.words.specs.Words.{inner, number-or-text, word-at, first-of, after-first, letter-in, number-in, body-or-range, printable}
 use Rattle.lines.specs.Numbers.{cut, more-words, and-then, no-numbers, with-number, numbers-from}
 use Rattle.lines.specs.Steps.{ledger, create-of, step-of}
-use Rattle.lines.specs.Reading.{ended, text-of, is-line, is-ledger, misses-range, made-step, from-numbers, read-numbers, append-body, append-text, read-append, takes-text, by-letter, read-line}
+use Rattle.lines.specs.Reading.{ended, text-of, is-line, is-ledger, made-step, from-numbers, read-numbers, append-body, append-text, read-append, takes-text, by-letter, read-line}
 use Rattle.lines.specs.Writing.{letter-for, numbers-in, text-in, spaced, written, InScript}
-use Rattle.words.specs.declared.faults.LineFault.{LineFault}
 use Rattle.words.specs.declared.letters.Letter.{Letter}
 use Rattle.words.specs.declared.letters.Letter.the-variants as letter
 use Rattle.lines.specs.declared.numbers.Numbers.{Numbers}

@@ -1,8 +1,7 @@
 -- The steps that numbers make.
 use Prim.Native.Nat.{ℕ}
-use mathlib.Core.Bool.{Bool, true, false, cond, _&&_, _||_}
-use mathlib.Core.List.{List}
-use lib.Dec.{eqb, leb, ltb}
+use mathlib.Core.Bool.{cond, _||_}
+use lib.Dec.{eqb, ltb}
 use lib.ListN.{getD}
 use Rattle.std.specs.shelf.Lists.{between}
 use Rattle.std.specs.declared.option.Option.{Option}

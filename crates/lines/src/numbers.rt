@@ -1,7 +1,6 @@
 // The numbers of a line whose words after the letter are all numbers, and the step that they make.
 ghost use mathlib.Core.Path.{_≡_};
 ghost use Prim.Native.Nat.{_^_, _<_, _+_};
-ghost use lib.ListN.{length};
 ghost use Rattle.lines.specs.Numbers.{no-numbers, with-number, numbers-from, more-words};
 ghost use Rattle.lines.specs.Steps.{create-of, step-of};
 use ledgers::bookie_lists::BookieList;

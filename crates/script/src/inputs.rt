@@ -8,7 +8,7 @@ ghost use Rattle.std.specs.Of.Vec.{vec-items};
 ghost use Rattle.std.specs.Results.{isOk};
 ghost use Rattle.std.specs.Vec.{made};
 ghost use Rattle.script.specs.Playing.{counted, line-bytes, totals-bytes};
-ghost use Rattle.script.specs.Inputs.{line-length, lines-of, LinesPlayed, InputPlayed};
+ghost use Rattle.script.specs.Inputs.{line-length, LinesPlayed, InputPlayed};
 use crate::players::Player;
 use crate::printing::OUTPUT_BYTES;
 use crate::printing::print_totals;
