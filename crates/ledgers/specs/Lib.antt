@@ -1,3 +1,4 @@
 pub mod Padding
 pub mod Bodies
 pub mod BookieLists
+pub mod Limits
