@@ -7,6 +7,7 @@ use native.Mathlib.Omega.{arith}
 use lib.Dec.{leb, ltb, eqb, lit≤}
 use lib.ListN.{getD, set, replicate, length-set}
 use Rattle.std.proofs.shelf.Tests.{cond-both}
+use Rattle.ledgers.specs.Ids.{entry-id}
 use Rattle.layout.specs.Sizes.{sizes-of}
 use Rattle.layout.specs.WriteSets.{write-set}
 use Rattle.layout.specs.declared.sizes.Sizes.{Sizes}
@@ -15,10 +16,10 @@ use Rattle.layout.specs.declared.fragments.Layout.{Layout}
 
 -- what stands past the end of a list of fragments
 abbrev pub no-fragment : Fragment
-no-fragment = record { first = record { 0 = 0 }; bookies = [] }
+no-fragment = record { first = entry-id 0; bookies = [] }
 
 abbrev pub blank-fragment : Fragment
-blank-fragment = record { first = record { 0 = 0 }; bookies = replicate 5 0 }
+blank-fragment = record { first = entry-id 0; bookies = replicate 5 0 }
 
 -- the last of the first n fragments whose first entry is not above e
 abbrev pub fragment-below : List Fragment → ℕ → ℕ → Fragment
@@ -49,7 +50,7 @@ abbrev pub first-layout : Sizes → List ℕ → Layout
 first-layout s bs =
     record
       { sizes = s
-      ; fragments = record { first = record { 0 = 0 }; bookies = bs } ∷ replicate 7 blank-fragment
+      ; fragments = record { first = entry-id 0; bookies = bs } ∷ replicate 7 blank-fragment
       ; count = 1
       ; eight = refl
       ; some = lit≤ tt
@@ -70,7 +71,7 @@ room-for y n = alters y n || ltb (y .count) 8
 
 -- from entry n on, bookie b at position p
 abbrev pub changed-fragment : Fragment → ℕ → ℕ → ℕ → Fragment
-changed-fragment f n p b = record { first = record { 0 = n }; bookies = set (f .bookies) p b }
+changed-fragment f n p b = record { first = entry-id n; bookies = set (f .bookies) p b }
 
 abbrev pub changed-place : Layout → ℕ → ℕ
 changed-place y n = cond (alters y n) (y .count - 1) (y .count)

@@ -1,4 +1,4 @@
--- How many ledgers and entries there can be, and which numbers name one.
+-- How many ledgers, entries and recoverers there can be, and which numbers name one.
 use Prim.Native.Nat.{ℕ}
 use mathlib.Core.Bool.{Bool, _&&_}
 use lib.Dec.{leb, ltb}
@@ -9,6 +9,9 @@ max-ledgers = 16
 abbrev pub max-entries : ℕ
 max-entries = 10000
 
+abbrev pub max-recoverers : ℕ
+max-recoverers = 4
+
 -- ledgers are numbered from 1
 abbrev pub is-ledger : ℕ → Bool
 is-ledger l = leb 1 l && leb l max-ledgers
@@ -16,3 +19,7 @@ is-ledger l = leb 1 l && leb l max-ledgers
 -- entries are numbered from 0
 abbrev pub is-entry : ℕ → Bool
 is-entry e = ltb e max-entries
+
+-- recoverers are numbered from 1
+abbrev pub is-recoverer : ℕ → Bool
+is-recoverer r = leb 1 r && leb r max-recoverers

@@ -3,8 +3,10 @@
 
 // The ledgers that there can be are 1 to this number,
 pub const MAX_LEDGERS: u32 = 16;
-// and the entries of each 0 to this number less one.
+// the entries of each 0 to this number less one,
 pub const MAX_ENTRIES: u32 = 10000;
+// and the recoverers 1 to this number.
+pub const MAX_RECOVERERS: u32 = 4;
 
 // A ledger; those that there can be are 1 to 16.
 #[derive(Clone, Copy)]

@@ -1,7 +1,6 @@
 -- The blank records: zeros, and the first case of each choice.
-use mathlib.Core.Bool.{false}
 use mathlib.Core.List.{[]}
-use lib.ListN.{replicate}
+use Rattle.ledgers.specs.Ids.{ledger-id, bookie-id, recoverer-id, lac-id, version-id}
 use Rattle.ledgers.specs.Bodies.{body-of}
 use Rattle.ledgers.specs.declared.bodies.Body.{Body}
 use Rattle.layout.specs.WriteSets.{no-marks}
@@ -16,11 +15,11 @@ abbrev pub no-body : Body
 no-body = body-of []
 
 abbrev pub no-message : Message
-no-message = Fence (record { 0 = 0 }) (record { 0 = 0 }) (record { 0 = 0 })
+no-message = Fence (recoverer-id 0) (ledger-id 0) (bookie-id 0)
 
 abbrev pub no-add : PendingAdd
 no-add = record { body = no-body; marks = no-marks }
 
 -- the metadata of a ledger that is not there: no put has given it a version
 abbrev pub no-metadata : Metadata
-no-metadata = record { version = record { 0 = 0 }; state = Open; layout = no-layout; closing = record { 0 = 0 } }
+no-metadata = record { version = version-id 0; state = Open; layout = no-layout; closing = lac-id 0 }

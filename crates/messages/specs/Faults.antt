@@ -18,6 +18,11 @@ abbrev pub when-ok : {A F X : Type 0} → Result A F → X → X → X
 when-ok (Ok a) x y = x
 when-ok (Err f) x y = y
 
+-- the second of two calls is made only where the first is accepted
+abbrev pub and-then : {A B F : Type 0} → Result A F → Result B F → Result B F
+and-then (Ok a) r = r
+and-then (Err f) r = Err f
+
 abbrev pub bookie-number : BookieFault → ℕ
 bookie-number bookie.Range = 20
 bookie-number bookie.Stopped = 21
