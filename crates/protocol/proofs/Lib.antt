@@ -1,1 +1,6 @@
-
+pub mod Lists
+pub mod Questions
+pub mod World
+pub mod Lasting
+pub mod Apart
+pub mod Changes

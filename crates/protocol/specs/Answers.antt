@@ -1,5 +1,6 @@
 -- The number and the value that are printed for an answer.
 use Prim.Native.Nat.{ℕ, zero, suc}
+use mathlib.Core.Bool.{Bool, true, false}
 use lib.IntN.{ℤ, pos, negsuc}
 use Rattle.messages.specs.Faults.{bookie-number, store-number}
 use Rattle.protocol.specs.declared.answers.Answer.{Answer}
@@ -39,6 +40,21 @@ refusal Lost = 0
 refusal Served = 0
 refusal (Unserved f) = 0
 refusal Done = 0
+
+abbrev pub is-accepted : Answer → Bool
+is-accepted (Refused f) = false
+is-accepted (Version v) = true
+is-accepted (Entry e) = true
+is-accepted (Waiting n) = true
+is-accepted (FirstEntry e) = true
+is-accepted (ClosingEntry n) = true
+is-accepted (Confirmed n) = true
+is-accepted (Settled n) = true
+is-accepted Idle = true
+is-accepted Lost = true
+is-accepted Served = true
+is-accepted (Unserved f) = true
+is-accepted Done = true
 
 -- the last of the first n entries, -1 where there is none
 abbrev pub last-of : ℕ → ℤ

@@ -20,7 +20,7 @@ use Rattle.layout.specs.Layouts.{last-fragment}
 use Rattle.messages.specs.declared.faults.BookieFault.{BookieFault}
 use Rattle.messages.specs.declared.messages.Message.{Message}
 use Rattle.messages.specs.declared.messages.Message.the-variants.{Added, AddRefused, Fenced}
-use Rattle.protocol.specs.Answers.{refusal}
+use Rattle.protocol.specs.Answers.{is-accepted}
 use Rattle.protocol.specs.Recoverers.{at-work}
 use Rattle.protocol.specs.Clusters.{Cluster, empty, recoverer-of}
 use Rattle.protocol.specs.Steps.{step, message-at}
@@ -61,7 +61,7 @@ Delivered v m = (p : MessagePlace) × (v .did ≡ Deliver p) × (message-at (v .
 
 -- the event is accepted
 abbrev pub Accepted : Event → Type 0
-Accepted v = refusal (v .said) ≡ 0
+Accepted v = is-accepted (v .said) ≡ true
 
 -- appended and confirmed ---------------------------------------------------------------------------------------------
 -- an append was answered by entry e of ledger l, and body is its content
@@ -85,7 +85,7 @@ Closes l v = (v .did ≡ Close l) ⊎ ((r : RecovererId) × (v .did ≡ Finish r
 
 -- and was accepted with answer a, which is not that the writer lost its ledger
 abbrev pub ClosedWith : LedgerId → Answer → Event → Type 0
-ClosedWith l a v = Closes l v × (v .said ≡ a) × (refusal a ≡ 0) × (a ≡ answer.Lost → ⊥)
+ClosedWith l a v = Closes l v × (v .said ≡ a) × (is-accepted a ≡ true) × (a ≡ answer.Lost → ⊥)
 
 -- fence rounds -------------------------------------------------------------------------------------------------------
 -- the event started recoverer r
