@@ -4,3 +4,5 @@ pub mod World
 pub mod Lasting
 pub mod Apart
 pub mod Changes
+pub mod PlainSteps
+pub mod Requests

@@ -5,12 +5,13 @@ use mathlib.Core.List.{List, [], _∷_, _++_, map}
 use Prim.Native.Nat.{ℕ, zero, suc, _+_, _-_, _≤_, _<_}
 use native.Mathlib.Omega.{arith}
 use native.Mathlib.Nat.{le-of-suc-le-suc, not-suc-le-zero}
-use lib.Dec.{ltb, eqb}
+use lib.Dec.{leb, ltb, eqb}
 use lib.ListN.{length, getD, set, take, drop, replicate}
 use Rattle.std.specs.shelf.Lists.{All}
 use Rattle.std.proofs.shelf.Elements.{all-append, all-push, all-take, all-drop}
 use Rattle.std.proofs.shelf.Lists.{getD-past, set-past}
-use Rattle.std.proofs.shelf.Tests.{true≢false, false≢true, cond-both, cond-false, eqb-true, ne-eqb}
+use Rattle.std.proofs.shelf.Tests.{and-parts, true≢false, false≢true, cond-both, cond-false, eqb-true, ne-eqb, leb-true}
+use Rattle.ledgers.specs.Limits.{max-ledgers, is-ledger}
 use Rattle.ledgers.specs.Tables.{row, numbered, renumbered}
 use Rattle.layout.specs.WriteSets.{write-set, tally, marked, no-marks, mark}
 use Rattle.layout.specs.Layouts.{bookie-at, bookies-of}
@@ -104,6 +105,13 @@ pub has-row : {A : Type 0} (t : A → Bool) (xs : List A) (i : ℕ) (d : A) → 
 has-row t xs zero d e h = absurd (true≢false (sym h ∙ ap t (no-row xs d) ∙ e))
 has-row t xs (suc i) d e h =
     let k : i < length xs = in-range t xs i d e (in-row (λ a. t a ≡ true) xs i d h) in (omega arith, omega arith)
+
+-- a ledger that there can be has a row in a table of all
+pub ledger-row : {A : Type 0} (xs : List A) (l : ℕ) → length xs ≡ max-ledgers → is-ledger l ≡ true → HasRow xs l
+ledger-row xs l n h =
+    let p = and-parts (leb 1 l) (leb l max-ledgers) h in
+    let low : 1 ≤ l = leb-true 1 l (p .0) in
+    let high : l ≤ max-ledgers = leb-true l max-ledgers (p .1) in (low, omega arith)
 
 -- every row of a table of blanks is blank
 pub all-blank : {A : Type 0} (P : A → Type 0) (n i : ℕ) (d : A) → P d → P (numbered (replicate n d) i d)

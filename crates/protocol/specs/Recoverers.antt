@@ -126,15 +126,15 @@ hits x m = tally (marked m) (write-set (x .layout .sizes) (x .settled .0))
 abbrev pub fenced-on : Recoverer → List Bool → ℕ → Recoverer
 fenced-on x m n = in-phase x n (cond (covers (x .layout .sizes) (marked m)) (read-on n) (Fencing m))
 
-abbrev pub fence-reply : Recoverer → List Bool → BookieId → Lac → Recoverer
-fence-reply x m b n = fenced-on x (fence-marks x m (b .0)) (higher (x .settled .0) (n .0))
+abbrev pub heard-fenced : Recoverer → List Bool → BookieId → Lac → Recoverer
+heard-fenced x m b n = fenced-on x (fence-marks x m (b .0)) (higher (x .settled .0) (n .0))
 
 -- reading: once a blocking number of positions answered absent, the entry cannot have been confirmed
 abbrev pub absent-on : Recoverer → List Bool → Recoverer
 absent-on x m = in-phase x (x .settled .0) (cond (leb (blocking (x .layout .sizes)) (hits x m)) Ended (Reading m))
 
-abbrev pub absent-reply : Recoverer → List Bool → BookieId → Recoverer
-absent-reply x m b = absent-on x (entry-marks x m (b .0))
+abbrev pub heard-absent : Recoverer → List Bool → BookieId → Recoverer
+heard-absent x m b = absent-on x (entry-marks x m (b .0))
 
 -- writing back: once an ack quorum holds the entry, it is settled, and the next is read
 abbrev pub written-on : Recoverer → List Bool → Recoverer
@@ -142,8 +142,8 @@ written-on x m =
     cond (leb (x .layout .sizes .ack) (hits x m)) (in-phase x (next (x .settled .0)) (read-on (next (x .settled .0))))
     (in-phase x (x .settled .0) (Writing m))
 
-abbrev pub written-reply : Recoverer → List Bool → BookieId → Recoverer
-written-reply x m b = written-on x (entry-marks x m (b .0))
+abbrev pub heard-written : Recoverer → List Bool → BookieId → Recoverer
+heard-written x m b = written-on x (entry-marks x m (b .0))
 
 -- the reply is of the ledger and the entry at hand
 abbrev pub at-hand : Recoverer → ℕ → ℕ → Bool
@@ -156,7 +156,7 @@ while-fencing x m (Add l b e n body) = x
 while-fencing x m (RecoveryAdd r l b e n body) = x
 while-fencing x m (Added l b e) = x
 while-fencing x m (AddRefused l b e f) = x
-while-fencing x m (Fenced r l b n) = cond (eqb (l .0) (x .ledger .0)) (fence-reply x m b n) x
+while-fencing x m (Fenced r l b n) = cond (eqb (l .0) (x .ledger .0)) (heard-fenced x m b n) x
 while-fencing x m (Absent r l b e) = x
 while-fencing x m (Found r l b e n body) = x
 while-fencing x m (RecoveryAdded r l b e) = x
@@ -170,7 +170,7 @@ while-reading x m (RecoveryAdd r l b e n body) = x
 while-reading x m (Added l b e) = x
 while-reading x m (AddRefused l b e f) = x
 while-reading x m (Fenced r l b n) = x
-while-reading x m (Absent r l b e) = cond (at-hand x (l .0) (e .0)) (absent-reply x m b) x
+while-reading x m (Absent r l b e) = cond (at-hand x (l .0) (e .0)) (heard-absent x m b) x
 while-reading x m (Found r l b e n body) = cond (at-hand x (l .0) (e .0)) (write-back x n body) x
 while-reading x m (RecoveryAdded r l b e) = x
 while-reading x m (Refused r l b f) = x
@@ -185,7 +185,7 @@ while-writing x m (AddRefused l b e f) = x
 while-writing x m (Fenced r l b n) = x
 while-writing x m (Absent r l b e) = x
 while-writing x m (Found r l b e n body) = x
-while-writing x m (RecoveryAdded r l b e) = cond (at-hand x (l .0) (e .0)) (written-reply x m b) x
+while-writing x m (RecoveryAdded r l b e) = cond (at-hand x (l .0) (e .0)) (heard-written x m b) x
 while-writing x m (Refused r l b f) = x
 
 -- a reply of another phase is ignored
