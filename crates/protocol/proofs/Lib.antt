@@ -6,3 +6,4 @@ pub mod Apart
 pub mod Changes
 pub mod PlainSteps
 pub mod Requests
+pub mod Replies

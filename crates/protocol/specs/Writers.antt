@@ -1,6 +1,6 @@
 -- The writer of a ledger: what each call answers, what the writer becomes and what it sends.
 use Prim.Native.Nat.{ℕ, suc, _+_}
-use mathlib.Core.Bool.{Bool, true, false, cond, not, _&&_, _||_}
+use mathlib.Core.Bool.{Bool, true, false, cond, not, _&&_}
 use mathlib.Core.List.{List, [], _∷_, _++_, map}
 use lib.Dec.{leb, ltb, eqb}
 use lib.ListN.{length, set, take}
@@ -67,6 +67,12 @@ is-closed state.Absent = false
 is-closed state.Writing = false
 is-closed state.Fenced = false
 is-closed state.Closed = true
+
+abbrev pub is-writing : WriterState → Bool
+is-writing state.Absent = false
+is-writing state.Writing = true
+is-writing state.Fenced = false
+is-writing state.Closed = false
 
 -- with other pending adds, the first of which is entry n
 abbrev pub with-pending : Writer → ℕ → List PendingAdd → Writer
@@ -163,7 +169,7 @@ replied w b e (Err refused.Full) = w
 
 -- a fenced or closed writer ignores every reply
 abbrev pub reply-after : Writer → ℕ → ℕ → Result (Unit {0}) BookieFault → Writer
-reply-after w b e r = cond (is-shut-out (w .state) || is-closed (w .state)) w (replied w b e r)
+reply-after w b e r = cond (is-writing (w .state)) (replied w b e r) w
 
 -- puts of a writer ---------------------------------------------------------------------------------------------------
 -- another version means that a recovery took the ledger over: no result, and the writer is fenced
