@@ -7,3 +7,6 @@ pub mod Changes
 pub mod PlainSteps
 pub mod Requests
 pub mod Replies
+pub mod WriterSteps
+pub mod RecovererSteps
+pub mod Runs
