@@ -10,3 +10,4 @@ pub mod Replies
 pub mod WriterSteps
 pub mod RecovererSteps
 pub mod Runs
+pub mod Words

@@ -2,6 +2,7 @@
 use mathlib.Core.Path.{_≡_, refl, sym, _∙_, ap, subst}
 use mathlib.Core.Bool.{Bool, true, false, cond}
 use mathlib.Core.List.{List, [], _∷_, _++_, map}
+use mathlib.Core.Logic.{_⊎_, inl, inr}
 use Prim.Native.Nat.{ℕ, zero, suc, _+_, _-_, _≤_, _<_}
 use native.Mathlib.Omega.{arith}
 use native.Mathlib.Nat.{le-of-suc-le-suc, not-suc-le-zero}
@@ -10,7 +11,7 @@ use lib.ListN.{length, getD, set, take, drop, replicate}
 use Rattle.std.specs.shelf.Lists.{All}
 use Rattle.std.proofs.shelf.Elements.{all-append, all-push, all-take, all-drop}
 use Rattle.std.proofs.shelf.Lists.{getD-past, set-past}
-use Rattle.std.proofs.shelf.Tests.{and-parts, true≢false, false≢true, cond-both, cond-false, eqb-true, ne-eqb, leb-true}
+use Rattle.std.proofs.shelf.Tests.{and-parts, true≢false, false≢true, cond-both, cond-false, eqb-true, ne-eqb, leb-true, cases-lt}
 use Rattle.ledgers.specs.Limits.{max-ledgers, is-ledger}
 use Rattle.ledgers.specs.Tables.{row, numbered, renumbered}
 use Rattle.layout.specs.WriteSets.{write-set, tally, marked, no-marks, mark}
@@ -105,6 +106,13 @@ pub has-row : {A : Type 0} (t : A → Bool) (xs : List A) (i : ℕ) (d : A) → 
 has-row t xs zero d e h = absurd (true≢false (sym h ∙ ap t (no-row xs d) ∙ e))
 has-row t xs (suc i) d e h =
     let k : i < length xs = in-range t xs i d e (in-row (λ a. t a ≡ true) xs i d h) in (omega arith, omega arith)
+
+-- a number has a row, or a blank
+pub row-or-blank : {A : Type 0} (xs : List A) (i : ℕ) (d : A) → HasRow xs i ⊎ (numbered xs i d ≡ d)
+row-or-blank xs zero d = inr (no-row xs d)
+row-or-blank xs (suc i) d =
+    elim (cases-lt i (length xs))
+    [ inl z ↦ inl (omega arith, z) | inr z ↦ inr (subst (λ (k : ℕ). getD xs k d ≡ d) (sym (row-suc xs i)) (getD-past xs i d z)) ]
 
 -- a ledger that there can be has a row in a table of all
 pub ledger-row : {A : Type 0} (xs : List A) (l : ℕ) → length xs ≡ max-ledgers → is-ledger l ≡ true → HasRow xs l

@@ -8,3 +8,4 @@ pub mod faults;
 pub mod answers;
 pub mod writers;
 pub mod recoverers;
+pub mod promises;
