@@ -1,0 +1,13 @@
+pub mod Lists
+pub mod Questions
+pub mod World
+pub mod Lasting
+pub mod Apart
+pub mod Changes
+pub mod PlainSteps
+pub mod Requests
+pub mod Replies
+pub mod WriterSteps
+pub mod RecovererSteps
+pub mod Runs
+pub mod Words
