@@ -4,6 +4,8 @@ use Rattle.ledgers.specs.declared.ids.BookieId.{BookieId}
 use Rattle.ledgers.specs.declared.ids.EntryId.{EntryId}
 use Rattle.ledgers.specs.declared.ids.Lac.{Lac}
 use Rattle.ledgers.specs.declared.ids.LedgerId.{LedgerId}
+use Rattle.ledgers.specs.declared.ids.MessagePlace.{MessagePlace}
+use Rattle.ledgers.specs.declared.ids.Position.{Position}
 use Rattle.ledgers.specs.declared.ids.RecovererId.{RecovererId}
 use Rattle.ledgers.specs.declared.ids.Version.{Version}
 
@@ -12,6 +14,12 @@ ledger-id n = record { 0 = n }
 
 abbrev pub bookie-id : ℕ → BookieId
 bookie-id n = record { 0 = n }
+
+abbrev pub position-id : ℕ → Position
+position-id n = record { 0 = n }
+
+abbrev pub message-place : ℕ → MessagePlace
+message-place n = record { 0 = n }
 
 abbrev pub recoverer-id : ℕ → RecovererId
 recoverer-id n = record { 0 = n }

@@ -22,6 +22,8 @@ use Rattle.std.specs.declared.option.Option.{Option}
 use Rattle.std.specs.declared.option.Option.the-variants.{Some, None}
 use Rattle.std.specs.declared.result.Result.{Result}
 use Rattle.std.specs.declared.result.Result.the-variants.{Ok, Err}
+use Rattle.ledgers.specs.Limits.{is-ledger}
+use Rattle.ledgers.specs.Ids.{ledger-id, bookie-id, position-id, message-place, recoverer-id}
 use Rattle.ledgers.specs.Bodies.{content, body-of}
 use Rattle.ledgers.specs.BookieLists.{list-of}
 use Rattle.ledgers.proofs.Same.{content-of, listed-of}
@@ -35,8 +37,8 @@ use Rattle.words.specs.declared.letters.Letter.{Letter}
 use Rattle.words.specs.declared.letters.Letter.the-variants as letter
 use Rattle.words.specs.declared.faults.LineFault.{LineFault}
 use Rattle.lines.specs.Numbers.{more-words, and-then, no-numbers, with-number, numbers-from}
-use Rattle.lines.specs.Steps.{ledger, bookie, position, recoverer, message, at-place, taking, create-of, step-of}
-use Rattle.lines.specs.Reading.{ended, text-of, is-line, is-ledger, ledger-word, misses-range, within-range, made-step, from-numbers, read-numbers, append-body, append-text, read-append, takes-text, by-letter, read-line}
+use Rattle.lines.specs.Steps.{at-place, taking, create-of, step-of}
+use Rattle.lines.specs.Reading.{ended, text-of, is-line, ledger-word, misses-range, within-range, made-step, from-numbers, read-numbers, append-body, append-text, read-append, takes-text, by-letter, read-line}
 use Rattle.lines.specs.Writing.{letter-for, numbers-in, text-in, spaced, written, sayable, InScript}
 use Rattle.lines.specs.declared.numbers.Numbers.{Numbers}
 use Rattle.lines.proofs.Cuts.{numbers-turn}
@@ -235,7 +237,7 @@ of-create (l ∷ n ∷ w ∷ k ∷ xs) s e =
     let many = create-count (l ∷ n ∷ w ∷ k ∷ xs) s e in
     let some : 0 < length xs = omega (arith, many .0) in
     let few : length xs ≤ 5 = omega (arith, many .1) in
-    let is : Create (ledger l) n w k (list-of xs) ≡ s =
+    let is : Create (ledger-id l) n w k (list-of xs) ≡ s =
     same (sym (ap (created l n w k) (cond-true (leb (length xs) 5) (Some (list-of xs)) None (le-leb (length xs) 5 few))) ∙ sym (create-listed l n w k xs some few) ∙ e) in
     subst (MadeOf letter.Create (l ∷ n ∷ w ∷ k ∷ xs)) is
     (record {
@@ -254,18 +256,18 @@ plain a b c d = record { letter = a; numbers = b; bare = c; said = d }
 step-was : (x : Letter) (ns : List ℕ) (s : Step) → step-of x (all-with no-numbers ns) ≡ Some s → MadeOf x ns s
 step-was letter.Create ns s e = of-create ns s e
 step-was letter.Append ns s e = absurd (no-step s e)
-step-was letter.Resend ns s e = of-one letter.Resend s (λ a. Resend (ledger a)) (λ a. plain refl refl refl refl) ns e
+step-was letter.Resend ns s e = of-one letter.Resend s (λ a. Resend (ledger-id a)) (λ a. plain refl refl refl refl) ns e
 step-was letter.ChangeEnsemble ns s e =
-    of-three letter.ChangeEnsemble s (λ a b c. ChangeEnsemble (ledger a) (position b) (bookie c)) (λ a b c. plain refl refl refl refl) ns e
-step-was letter.Close ns s e = of-one letter.Close s (λ a. Close (ledger a)) (λ a. plain refl refl refl refl) ns e
-step-was letter.Recover ns s e = of-two letter.Recover s (λ a b. Recover (recoverer a) (ledger b)) (λ a b. plain refl refl refl refl) ns e
-step-was letter.AskAgain ns s e = of-one letter.AskAgain s (λ a. AskAgain (recoverer a)) (λ a. plain refl refl refl refl) ns e
-step-was letter.Finish ns s e = of-one letter.Finish s (λ a. Finish (recoverer a)) (λ a. plain refl refl refl refl) ns e
-step-was letter.Deliver ns s e = of-one letter.Deliver s (λ a. Deliver (message a)) (λ a. plain refl refl refl refl) ns e
-step-was letter.Duplicate ns s e = of-one letter.Duplicate s (λ a. Duplicate (message a)) (λ a. plain refl refl refl refl) ns e
-step-was letter.Discard ns s e = of-one letter.Discard s (λ a. Discard (message a)) (λ a. plain refl refl refl refl) ns e
-step-was letter.Stop ns s e = of-one letter.Stop s (λ a. Stop (bookie a)) (λ a. plain refl refl refl refl) ns e
-step-was letter.Start ns s e = of-one letter.Start s (λ a. Start (bookie a)) (λ a. plain refl refl refl refl) ns e
+    of-three letter.ChangeEnsemble s (λ a b c. ChangeEnsemble (ledger-id a) (position-id b) (bookie-id c)) (λ a b c. plain refl refl refl refl) ns e
+step-was letter.Close ns s e = of-one letter.Close s (λ a. Close (ledger-id a)) (λ a. plain refl refl refl refl) ns e
+step-was letter.Recover ns s e = of-two letter.Recover s (λ a b. Recover (recoverer-id a) (ledger-id b)) (λ a b. plain refl refl refl refl) ns e
+step-was letter.AskAgain ns s e = of-one letter.AskAgain s (λ a. AskAgain (recoverer-id a)) (λ a. plain refl refl refl refl) ns e
+step-was letter.Finish ns s e = of-one letter.Finish s (λ a. Finish (recoverer-id a)) (λ a. plain refl refl refl refl) ns e
+step-was letter.Deliver ns s e = of-one letter.Deliver s (λ a. Deliver (message-place a)) (λ a. plain refl refl refl refl) ns e
+step-was letter.Duplicate ns s e = of-one letter.Duplicate s (λ a. Duplicate (message-place a)) (λ a. plain refl refl refl refl) ns e
+step-was letter.Discard ns s e = of-one letter.Discard s (λ a. Discard (message-place a)) (λ a. plain refl refl refl refl) ns e
+step-was letter.Stop ns s e = of-one letter.Stop s (λ a. Stop (bookie-id a)) (λ a. plain refl refl refl refl) ns e
+step-was letter.Start ns s e = of-one letter.Start s (λ a. Start (bookie-id a)) (λ a. plain refl refl refl refl) ns e
 
 -- What a letter and the bytes behind it say of the step that they are read as.
 record ReadAs (x : Letter) (fits : Bool) (ws : List ℕ) (s : Step) : Type 0 where
@@ -316,7 +318,7 @@ body-was bs b e = by (leb (length bs) 40) refl e
         let same : body-of bs ≡ b = cc in
         (way .0, ap content (sym same) ∙ content-of bs (leb-true (length bs) 40 is))
 
-append-body-was : (n : ℕ) (r : Result Body LineFault) (s : Step) → append-body n r ≡ Ok s → (b : Body) × (r ≡ Ok b) × (Append (ledger n) b ≡ s)
+append-body-was : (n : ℕ) (r : Result Body LineFault) (s : Step) → append-body n r ≡ Ok s → (b : Body) × (r ≡ Ok b) × (Append (ledger-id n) b ≡ s)
 append-body-was n (Err f) s e = absurd (no-fault f s e)
 append-body-was n (Ok b) s e = (b, refl, cc)
 
@@ -329,7 +331,7 @@ append-text-was fits n (c ∷ t) s gap short e =
     let ranged = not-else (is-ledger n) _ _ (Ok s) (way .1) (no-fault _ s) in
     let made = append-body-was n (body-in (text t 2)) s (ranged .1) in
     let body = body-was t (made .0) (made .1) in
-    let in-range : ledger-word (ledger n) 1 ≡ 0 = cond-true (is-ledger n) 0 1 (ranged .0) in
+    let in-range : ledger-word (ledger-id n) 1 ≡ 0 = cond-true (is-ledger n) 0 1 (ranged .0) in
     let digits = decimal n in
     subst (ReadAs letter.Append fits (32 ∷ digits ++ (c ∷ t))) (made .2)
     (record {

@@ -15,6 +15,8 @@ use Rattle.std.proofs.shelf.Ways.{tells}
 use Rattle.std.specs.declared.option.Option.{Option}
 use Rattle.std.specs.declared.option.Option.the-variants.{Some, None}
 use Rattle.std.specs.declared.result.Result.the-variants.{Ok}
+use Rattle.ledgers.specs.Limits.{is-ledger}
+use Rattle.ledgers.specs.Ids.{ledger-id}
 use Rattle.ledgers.specs.Bodies.{content}
 use Rattle.ledgers.specs.BookieLists.{listed, made-list}
 use Rattle.ledgers.proofs.Same.{length-content, made-of-content, length-listed, made-of-listed}
@@ -26,8 +28,8 @@ use Rattle.ledgers.specs.declared.steps.Step.the-variants.{Create, Append, Rese
 use Rattle.words.specs.Letters.{byte-of}
 use Rattle.words.specs.Words.{inner, number-or-text, word-at, first-of, after-first, letter-in, number-in, body-or-range, printable}
 use Rattle.lines.specs.Numbers.{cut, more-words, and-then, no-numbers, with-number, numbers-from}
-use Rattle.lines.specs.Steps.{ledger, create-of, step-of}
-use Rattle.lines.specs.Reading.{ended, text-of, is-line, is-ledger, made-step, from-numbers, read-numbers, append-body, append-text, read-append, takes-text, by-letter, read-line}
+use Rattle.lines.specs.Steps.{create-of, step-of}
+use Rattle.lines.specs.Reading.{ended, text-of, is-line, made-step, from-numbers, read-numbers, append-body, append-text, read-append, takes-text, by-letter, read-line}
 use Rattle.lines.specs.Writing.{letter-for, numbers-in, text-in, spaced, written, InScript}
 use Rattle.words.specs.declared.letters.Letter.{Letter}
 use Rattle.words.specs.declared.letters.Letter.the-variants as letter
@@ -149,7 +151,7 @@ module _ (s : Step) (h : InScript s) where
 -- A create: its bookies are the numbers behind the fourth.
 abbrev pub created : ℕ → ℕ → ℕ → ℕ → Option BookieList → Option Step
 created l e w k None = None
-created l e w k (Some bs) = Some (Create (ledger l) e w k bs)
+created l e w k (Some bs) = Some (Create (ledger-id l) e w k bs)
 
 pub create-listed : (l e w k : ℕ) (xs : List ℕ) → 0 < length xs → length xs ≤ 5
     → create-of (all-with no-numbers (l ∷ e ∷ w ∷ k ∷ xs)) ≡ created l e w k (made-list xs)

@@ -9,6 +9,8 @@ use Rattle.std.specs.declared.option.Option.{Option}
 use Rattle.std.specs.declared.option.Option.the-variants.{Some, None}
 use Rattle.std.specs.declared.result.Result.{Result}
 use Rattle.std.specs.declared.result.Result.the-variants.{Ok, Err}
+use Rattle.ledgers.specs.Limits.{is-ledger, is-recoverer}
+use Rattle.ledgers.specs.Ids.{ledger-id}
 use Rattle.ledgers.specs.declared.bodies.Body.{Body}
 use Rattle.ledgers.specs.declared.ids.LedgerId.{LedgerId}
 use Rattle.ledgers.specs.declared.ids.RecovererId.{RecovererId}
@@ -16,7 +18,7 @@ use Rattle.ledgers.specs.declared.steps.Step.{Step}
 use Rattle.ledgers.specs.declared.steps.Step.the-variants.{Create, Append, Resend, ChangeEnsemble, Close, Recover, AskAgain, Finish, Deliver, Duplicate, Discard, Stop, Start}
 use Rattle.words.specs.Words.{text, word-at, first-of, after-first, letter-in, number-in, body-in}
 use Rattle.lines.specs.Numbers.{no-numbers, numbers-from, more-words}
-use Rattle.lines.specs.Steps.{ledger, step-of}
+use Rattle.lines.specs.Steps.{step-of}
 use Rattle.words.specs.declared.faults.LineFault.{LineFault}
 use Rattle.words.specs.declared.faults.LineFault.the-variants.{Form, Range}
 use Rattle.words.specs.declared.letters.Letter.{Letter}
@@ -40,12 +42,6 @@ abbrev pub first-letter : List ℕ → Option Letter
 first-letter l = okPart (letter-in (word-at 0 (first-of (text-of l))))
 
 -- Ranges.
-abbrev pub is-ledger : ℕ → Bool
-is-ledger n = leb 1 n && leb n 16
-
-abbrev pub is-recoverer : ℕ → Bool
-is-recoverer n = leb 1 n && leb n 4
-
 -- the word w, where the ledger that it names is out of range, else 0
 abbrev pub ledger-word : LedgerId → ℕ → ℕ
 ledger-word l w = cond (is-ledger (l .0)) 0 w
@@ -87,7 +83,7 @@ abbrev pub read-numbers : Letter → Bool → List ℕ → Result Step LineFault
 read-numbers x fits ws = from-numbers x fits (numbers-from no-numbers (more-words ws))
 
 abbrev pub append-body : ℕ → Result Body LineFault → Result Step LineFault
-append-body n (Ok b) = Ok (Append (ledger n) b)
+append-body n (Ok b) = Ok (Append (ledger-id n) b)
 append-body n (Err f) = Err f
 
 abbrev pub append-text : Bool → Result ℕ LineFault → List ℕ → Result Step LineFault

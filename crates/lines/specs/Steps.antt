@@ -6,13 +6,9 @@ use lib.ListN.{getD}
 use Rattle.std.specs.shelf.Lists.{between}
 use Rattle.std.specs.declared.option.Option.{Option}
 use Rattle.std.specs.declared.option.Option.the-variants.{Some, None}
+use Rattle.ledgers.specs.Ids.{ledger-id, bookie-id, position-id, message-place, recoverer-id}
 use Rattle.ledgers.specs.BookieLists.{made-list}
 use Rattle.ledgers.specs.declared.bookie_lists.BookieList.{BookieList}
-use Rattle.ledgers.specs.declared.ids.BookieId.{BookieId}
-use Rattle.ledgers.specs.declared.ids.LedgerId.{LedgerId}
-use Rattle.ledgers.specs.declared.ids.MessagePlace.{MessagePlace}
-use Rattle.ledgers.specs.declared.ids.Position.{Position}
-use Rattle.ledgers.specs.declared.ids.RecovererId.{RecovererId}
 use Rattle.ledgers.specs.declared.steps.Step.{Step}
 use Rattle.ledgers.specs.declared.steps.Step.the-variants.{Create, Append, Resend, ChangeEnsemble, Close, Recover, AskAgain, Finish, Deliver, Duplicate, Discard, Stop, Start}
 use Rattle.words.specs.declared.letters.Letter.{Letter}
@@ -22,24 +18,9 @@ use Rattle.lines.specs.declared.numbers.Numbers.{Numbers}
 abbrev pub at-place : Numbers → ℕ → ℕ
 at-place n i = getD (n .values) i 0
 
-abbrev pub ledger : ℕ → LedgerId
-ledger n = record { 0 = n }
-
-abbrev pub bookie : ℕ → BookieId
-bookie n = record { 0 = n }
-
-abbrev pub position : ℕ → Position
-position n = record { 0 = n }
-
-abbrev pub recoverer : ℕ → RecovererId
-recoverer n = record { 0 = n }
-
-abbrev pub message : ℕ → MessagePlace
-message n = record { 0 = n }
-
 abbrev pub create-with : Numbers → Option BookieList → Option Step
 create-with n None = None
-create-with n (Some bs) = Some (Create (ledger (at-place n 0)) (at-place n 1) (at-place n 2) (at-place n 3) bs)
+create-with n (Some bs) = Some (Create (ledger-id (at-place n 0)) (at-place n 1) (at-place n 2) (at-place n 3) bs)
 
 -- a create takes a ledger, three sizes and one to five bookies
 abbrev pub create-of : Numbers → Option Step
@@ -54,14 +35,14 @@ taking k n s = cond (eqb (n .count) k) (Some s) None
 abbrev pub step-of : Letter → Numbers → Option Step
 step-of letter.Create n = create-of n
 step-of letter.Append n = None
-step-of letter.Resend n = taking 1 n (Resend (ledger (at-place n 0)))
-step-of letter.ChangeEnsemble n = taking 3 n (ChangeEnsemble (ledger (at-place n 0)) (position (at-place n 1)) (bookie (at-place n 2)))
-step-of letter.Close n = taking 1 n (Close (ledger (at-place n 0)))
-step-of letter.Recover n = taking 2 n (Recover (recoverer (at-place n 0)) (ledger (at-place n 1)))
-step-of letter.AskAgain n = taking 1 n (AskAgain (recoverer (at-place n 0)))
-step-of letter.Finish n = taking 1 n (Finish (recoverer (at-place n 0)))
-step-of letter.Deliver n = taking 1 n (Deliver (message (at-place n 0)))
-step-of letter.Duplicate n = taking 1 n (Duplicate (message (at-place n 0)))
-step-of letter.Discard n = taking 1 n (Discard (message (at-place n 0)))
-step-of letter.Stop n = taking 1 n (Stop (bookie (at-place n 0)))
-step-of letter.Start n = taking 1 n (Start (bookie (at-place n 0)))
+step-of letter.Resend n = taking 1 n (Resend (ledger-id (at-place n 0)))
+step-of letter.ChangeEnsemble n = taking 3 n (ChangeEnsemble (ledger-id (at-place n 0)) (position-id (at-place n 1)) (bookie-id (at-place n 2)))
+step-of letter.Close n = taking 1 n (Close (ledger-id (at-place n 0)))
+step-of letter.Recover n = taking 2 n (Recover (recoverer-id (at-place n 0)) (ledger-id (at-place n 1)))
+step-of letter.AskAgain n = taking 1 n (AskAgain (recoverer-id (at-place n 0)))
+step-of letter.Finish n = taking 1 n (Finish (recoverer-id (at-place n 0)))
+step-of letter.Deliver n = taking 1 n (Deliver (message-place (at-place n 0)))
+step-of letter.Duplicate n = taking 1 n (Duplicate (message-place (at-place n 0)))
+step-of letter.Discard n = taking 1 n (Discard (message-place (at-place n 0)))
+step-of letter.Stop n = taking 1 n (Stop (bookie-id (at-place n 0)))
+step-of letter.Start n = taking 1 n (Start (bookie-id (at-place n 0)))

@@ -1,9 +1,12 @@
 // A whole line, read as the step that it asks for.
 ghost use mathlib.Core.Path.{_≡_};
+ghost use Rattle.ledgers.specs.Limits.{is-ledger, is-recoverer};
 ghost use Rattle.lines.specs.Writing.{LinesKeepSteps};
-ghost use Rattle.lines.specs.Reading.{ended as ended-line, text-of, is-ledger, is-recoverer, ledger-word, recoverer-word, misses-range, first-letter, read-append, read-numbers, read-line};
+ghost use Rattle.lines.specs.Reading.{ended as ended-line, text-of, ledger-word, recoverer-word, misses-range, first-letter, read-append, read-numbers, read-line};
 use crate::numbers::Numbers;
 use ledgers::ids::LedgerId;
+use ledgers::ids::MAX_LEDGERS;
+use ledgers::ids::MAX_RECOVERERS;
 use ledgers::ids::RecovererId;
 use ledgers::steps::Step;
 use words::Letter;
@@ -99,13 +102,13 @@ fn read_numbers(letter: Letter, words: &[u8], fits: bool) -> Result<Step, LineFa
 fn is_ledger(number: u32) -> bool
     ensures { λ r. ⌜ r ≡ is-ledger number ⌝ }
 {
-    number >= 1 && number <= 16
+    number >= 1 && number <= MAX_LEDGERS
 }
 
 fn is_recoverer(number: u32) -> bool
     ensures { λ r. ⌜ r ≡ is-recoverer number ⌝ }
 {
-    number >= 1 && number <= 4
+    number >= 1 && number <= MAX_RECOVERERS
 }
 
 // The first word that is out of its range, or 0. Numbers of ledgers and recoverers have one, all others are free.

@@ -48,9 +48,15 @@ is-ended Ended = true
 
 abbrev pub no-recoverer : Recoverer
 no-recoverer =
-    record
-      { phase = Idle; ledger = ledger-id 0; version = version-id 0; layout = no-layout; settled = lac-id 0; lac = lac-id 0
-      ; body = no-body }
+    record {
+      phase = Idle;
+      ledger = ledger-id 0;
+      version = version-id 0;
+      layout = no-layout;
+      settled = lac-id 0;
+      lac = lac-id 0;
+      body = no-body;
+    }
 
 -- begin --------------------------------------------------------------------------------------------------------------
 -- what a store refuses comes through whole
@@ -88,9 +94,15 @@ new-recoverer l v y =
 -- replies ------------------------------------------------------------------------------------------------------------
 abbrev pub in-phase : Recoverer → ℕ → Phase → Recoverer
 in-phase x n ph =
-    record
-      { phase = ph; ledger = x .ledger; version = x .version; layout = x .layout; settled = lac-id n; lac = x .lac
-      ; body = x .body }
+    record {
+      phase = ph;
+      ledger = x .ledger;
+      version = x .version;
+      layout = x .layout;
+      settled = lac-id n;
+      lac = x .lac;
+      body = x .body;
+    }
 
 -- with n entries settled, the next is read, if there can be one
 abbrev pub read-on : ℕ → Phase
@@ -99,9 +111,15 @@ read-on n = cond (leb max-entries n) Ended (Reading no-marks)
 -- the entry that was found is written back
 abbrev pub write-back : Recoverer → Lac → Body → Recoverer
 write-back x n body =
-    record
-      { phase = Writing no-marks; ledger = x .ledger; version = x .version; layout = x .layout; settled = x .settled; lac = n
-      ; body = body }
+    record {
+      phase = Writing no-marks;
+      ledger = x .ledger;
+      version = x .version;
+      layout = x .layout;
+      settled = x .settled;
+      lac = n;
+      body = body;
+    }
 
 abbrev pub higher : ℕ → ℕ → ℕ
 higher a b = cond (ltb a b) b a
