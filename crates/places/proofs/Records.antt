@@ -1,14 +1,14 @@
 -- What the functions do to the records of a list and to the places behind them: what users of lists rest on.
-use Prim.Native.Nat.{ℕ, suc, _+_, _-_, _<_, _≤_}
+use Prim.Native.Nat.{ℕ, _+_, _-_, _<_, _≤_}
 use mathlib.Core.Path.{_≡_, _∙_, ap, sym}
-use mathlib.Core.Bool.{true, false, cond}
-use mathlib.Core.List.{List, [], _∷_, _++_}
+use mathlib.Core.Bool.{cond}
+use mathlib.Core.List.{List, _∷_, _++_}
 use mathlib.Core.Logic.{⊎-elim}
 use native.Mathlib.Numerals.{add-one}
 use native.Mathlib.Omega.{arith}
 use lib.Dec.{ltb}
 use lib.ListN.{length, take, drop, set, replicate, length-append}
-use Rattle.std.proofs.shelf.Lists.{append-assoc, take-more-set, take-all, take-take, take-at, drop-at, drop-take, drop-drop, drop-set-lt, drop-replicate, length-take, length-take-le, length-drop, set-past}
+use Rattle.std.proofs.shelf.Lists.{append-assoc, take-more-set, take-take, take-at, drop-at, drop-take, drop-drop, drop-set-lt, drop-replicate, length-take, length-take-le, length-drop, set-past}
 use Rattle.std.proofs.shelf.Tests.{lt-ltb, le-ltb, cond-true, cond-false, cases-lt}
 use Rattle.places.specs.Lists.{posted, taken-off, closed}
 

@@ -1,6 +1,7 @@
 // Bodies from bytes, and back.
 ghost use mathlib.Core.Path.{_≡_};
-ghost use Rattle.ledgers.specs.Bodies.{content, made-body};
+ghost use mathlib.Core.List.{[]};
+ghost use Rattle.ledgers.specs.Bodies.{content, body-of, made-body};
 use super::Body;
 use super::MAX_BODY;
 
@@ -16,6 +17,16 @@ impl Body {
         let mut bytes = [0; MAX_BODY];
         bytes[0..len].copy_from_slice(content);
         Some(Body { len, bytes })
+    }
+
+    // The body with no bytes.
+    pub fn empty() -> Body
+        ensures { λ r. ⌜ r ≡ body-of [] ⌝ }
+    {
+        Body {
+            len: 0,
+            bytes: [0; MAX_BODY],
+        }
     }
 
     // The bytes that count.
