@@ -1,0 +1,9 @@
+pub mod Bookies
+pub mod Stores
+pub mod Writers
+pub mod Recoverers
+pub mod Clusters
+pub mod Answers
+pub mod Steps
+pub mod Histories
+pub mod Law
