@@ -1,3 +1,4 @@
 pub mod Sizes
 pub mod WriteSets
+pub mod Positions
 pub mod Layouts

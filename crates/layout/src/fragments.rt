@@ -26,3 +26,6 @@ pub struct Layout {
     ghost some: { 1 ≤ count },
     ghost few: { count ≤ 8 },
 }
+
+pub mod changing;
+pub mod reading;

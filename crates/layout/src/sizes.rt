@@ -15,3 +15,4 @@ pub struct Sizes {
 }
 
 pub mod making;
+pub mod quorums;
