@@ -104,7 +104,7 @@ recover-keeps {x₀} ns c r l i =
     by Closed o q30 = i
 
 -- finish -------------------------------------------------------------------------------------------------------------
-ended-is : (ph : Phase) → is-ended ph ≡ true → ph ≡ Ended
+pub ended-is : (ph : Phase) → is-ended ph ≡ true → ph ≡ Ended
 ended-is Idle h = absurd (false≢true h)
 ended-is (Fencing m) h = absurd (false≢true h)
 ended-is (Reading m) h = absurd (false≢true h)
