@@ -11,20 +11,22 @@ use Rattle.ledgers.specs.declared.bookie_lists.BookieList.{BookieList}
 
 pub body-same : (a b : Body) → a .length ≡ b .length → a .bytes ≡ b .bytes → a ≡ b
 body-same a b n bs =
-    λ i. record
-      { length = n i
-      ; bytes = bs i
-      ; short = isProp→PathP (λ j. n j ≤ 40) (λ j. le-prop) (a .short) (b .short) i
-      ; padded =
+    λ i. record {
+      length = n i;
+      bytes = bs i;
+      short = isProp→PathP (λ j. n j ≤ 40) (λ j. le-prop) (a .short) (b .short) i;
+      padded =
           isProp→PathP (λ j. bs j ≡ take (n j) (bs j) ++ replicate (40 - n j) 0)
-          (λ j. List·isSet ℕ-set (bs j) (take (n j) (bs j) ++ replicate (40 - n j) 0)) (a .padded) (b .padded) i }
+          (λ j. List·isSet ℕ-set (bs j) (take (n j) (bs j) ++ replicate (40 - n j) 0)) (a .padded) (b .padded) i;
+    }
 
 pub list-same : (a b : BookieList) → a .count ≡ b .count → a .numbers ≡ b .numbers → a ≡ b
 list-same a b n bs =
-    λ i. record
-      { count = n i
-      ; numbers = bs i
-      ; few = isProp→PathP (λ j. n j ≤ 5) (λ j. le-prop) (a .few) (b .few) i
-      ; padded =
+    λ i. record {
+      count = n i;
+      numbers = bs i;
+      few = isProp→PathP (λ j. n j ≤ 5) (λ j. le-prop) (a .few) (b .few) i;
+      padded =
           isProp→PathP (λ j. bs j ≡ take (n j) (bs j) ++ replicate (5 - n j) 0)
-          (λ j. List·isSet ℕ-set (bs j) (take (n j) (bs j) ++ replicate (5 - n j) 0)) (a .padded) (b .padded) i }
+          (λ j. List·isSet ℕ-set (bs j) (take (n j) (bs j) ++ replicate (5 - n j) 0)) (a .padded) (b .padded) i;
+    }

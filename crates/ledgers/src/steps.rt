@@ -18,9 +18,14 @@ pub enum Step {
         bookies: BookieList,
     },
     // The writer appends an entry.
-    Append { ledger: LedgerId, body: Body },
+    Append {
+        ledger: LedgerId,
+        body: Body,
+    },
     // The writer's adds that are not acknowledged go again.
-    Resend { ledger: LedgerId },
+    Resend {
+        ledger: LedgerId,
+    },
     // The writer puts another bookie at a position.
     ChangeEnsemble {
         ledger: LedgerId,
@@ -28,24 +33,40 @@ pub enum Step {
         bookie: BookieId,
     },
     // The writer closes its ledger.
-    Close { ledger: LedgerId },
+    Close {
+        ledger: LedgerId,
+    },
     // A recoverer takes a ledger over.
     Recover {
         recoverer: RecovererId,
         ledger: LedgerId,
     },
     // A recoverer's requests that are not answered go again.
-    AskAgain { recoverer: RecovererId },
+    AskAgain {
+        recoverer: RecovererId,
+    },
     // A recoverer closes its ledger.
-    Finish { recoverer: RecovererId },
+    Finish {
+        recoverer: RecovererId,
+    },
     // A waiting message arrives.
-    Deliver { message: MessagePlace },
+    Deliver {
+        message: MessagePlace,
+    },
     // A waiting message is doubled.
-    Duplicate { message: MessagePlace },
+    Duplicate {
+        message: MessagePlace,
+    },
     // A waiting message is lost.
-    Discard { message: MessagePlace },
+    Discard {
+        message: MessagePlace,
+    },
     // A bookie stops.
-    Stop { bookie: BookieId },
+    Stop {
+        bookie: BookieId,
+    },
     // A bookie starts again.
-    Start { bookie: BookieId },
+    Start {
+        bookie: BookieId,
+    },
 }

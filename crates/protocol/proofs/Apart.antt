@@ -83,10 +83,11 @@ mod-apart : (e d m : ℕ) → 1 ≤ d → d < m → e % m ≡ (e + d) % m → �
 mod-apart e d m some lt same =
     let r : e % m < m = mod-lt e (omega arith) in
     let s : (e % m + d) % m ≡ (e + d) % m = mod-add-mod e m d in
-    elim (cases-lt (e % m + d) m)
-    [ inl h ↦ (let k : (e % m + d) % m ≡ e % m + d = mod-eq-of-lt h in omega arith)
-    | inr h ↦ (let k : (e % m + d) % m ≡ (e % m + d - m) % m = mod-eq-sub-mod h in
-        let l : (e % m + d - m) % m ≡ e % m + d - m = mod-eq-of-lt (omega arith) in omega arith) ]
+    elim (cases-lt (e % m + d) m) [
+      | inl h ↦ (let k : (e % m + d) % m ≡ e % m + d = mod-eq-of-lt h in omega arith)
+      | inr h ↦ (let k : (e % m + d) % m ≡ (e % m + d - m) % m = mod-eq-sub-mod h in
+          let l : (e % m + d - m) % m ≡ e % m + d - m = mod-eq-of-lt (omega arith) in omega arith)
+    ]
 
 later-not : (n e d m : ℕ) → 1 ≤ d → d + n ≤ m → member (e % m) (positions n (e + d) m) ≡ false
 later-not zero e d m some le = refl
@@ -126,8 +127,10 @@ bookies-apart y h e =
   where
     full : y .sizes .ensemble ≤ length (fragment-of y e .bookies)
     full = of-fragment (y .fragments) (λ f. y .sizes .ensemble ≤ length (f .bookies)) (y .count) e (h .first) (y .some) (h .full)
+
     apart : distinct (take (y .sizes .ensemble) (fragment-of y e .bookies)) ≡ true
     apart = of-fragment (y .fragments) (λ f. distinct (take (y .sizes .ensemble) (f .bookies)) ≡ true) (y .count) e (h .first) (y .some) (h .apart)
+
     one : (i j : ℕ) → i < y .sizes .ensemble → j < y .sizes .ensemble → bookie-at y e i ≡ bookie-at y e j → i ≡ j
     one i j k l q =
         let n : length (take (y .sizes .ensemble) (fragment-of y e .bookies)) ≡ y .sizes .ensemble = length-take-le (y .sizes .ensemble) (fragment-of y e .bookies) full in
@@ -137,12 +140,13 @@ bookies-apart y h e =
 -- a layout of one fragment
 pub first-layout-ok : (s : Sizes) (bs : List ℕ) → s .ensemble ≤ length bs → distinct (take (s .ensemble) bs) ≡ true → LayoutOk (first-layout s bs)
 first-layout-ok s bs full apart =
-    record
-      { first = refl
-      ; full = λ i l. let o : 0 ≡ i = omega arith in
-          subst (λ (k : ℕ). s .ensemble ≤ length (getD (first-layout s bs .fragments) k no-fragment .bookies)) o full
-      ; apart = λ i l. let o : 0 ≡ i = omega arith in
-          subst (λ (k : ℕ). distinct (take (s .ensemble) (getD (first-layout s bs .fragments) k no-fragment .bookies)) ≡ true) o apart }
+    record {
+      first = refl;
+      full = λ i l. let o : 0 ≡ i = omega arith in
+          subst (λ (k : ℕ). s .ensemble ≤ length (getD (first-layout s bs .fragments) k no-fragment .bookies)) o full;
+      apart = λ i l. let o : 0 ≡ i = omega arith in
+          subst (λ (k : ℕ). distinct (take (s .ensemble) (getD (first-layout s bs .fragments) k no-fragment .bookies)) ≡ true) o apart;
+    }
 
 pub no-layout-ok : LayoutOk no-layout
 no-layout-ok = first-layout-ok (sizes-of 1 1 1) (replicate 5 0) (lit≤ tt) refl

@@ -29,9 +29,18 @@ use Rattle.protocol.proofs.Lasting.{copies-later, under-shut, ledger-later, wr
 -- messages and recoverers --------------------------------------------------------------------------------------------
 pub with-messages : {x₀ x : World} {rs : ℕ → Recoverer} {ms : List Message} (new : List Message) → Inv x₀ x rs ms → All (MessageOk x) new → Inv x₀ x rs new
 with-messages new i h =
-    record
-      { since = i .since; acked = i .acked; copies = i .copies; messages = h; writing = i .writing; metadata = i .metadata
-      ; recoverers = i .recoverers; flags = i .flags; writers = i .writers; ledgers = i .ledgers }
+    record {
+      since = i .since;
+      acked = i .acked;
+      copies = i .copies;
+      messages = h;
+      writing = i .writing;
+      metadata = i .metadata;
+      recoverers = i .recoverers;
+      flags = i .flags;
+      writers = i .writers;
+      ledgers = i .ledgers;
+    }
 
 pub sent-inv : {x₀ : World} (ns : List Note) (c : Cluster) (new : List Message) → InvAt x₀ ns c → All (MessageOk (world ns c)) new → InvAt x₀ ns (send c new)
 sent-inv ns c new i h = with-messages (sent (c .queue) new .waiting) i (all-sent (MessageOk (world ns c)) (c .queue) new (i .messages) h)
@@ -39,10 +48,18 @@ sent-inv ns c new i h = with-messages (sent (c .queue) new .waiting) i (all-sent
 pub recoverer-inv : {x₀ : World} (ns : List Note) (c : Cluster) (r : ℕ) (R : Recoverer) → InvAt x₀ ns c → RecovererOk (world ns c) R
     → InvAt x₀ ns (with-recoverer c r R)
 recoverer-inv ns c r R i h =
-    record
-      { since = i .since; acked = i .acked; copies = i .copies; messages = i .messages; writing = i .writing; metadata = i .metadata
-      ; recoverers = λ k. at-number (RecovererOk (world ns c)) (c .recoverers) r k R no-recoverer (λ _. h) (i .recoverers k)
-      ; flags = i .flags; writers = i .writers; ledgers = i .ledgers }
+    record {
+      since = i .since;
+      acked = i .acked;
+      copies = i .copies;
+      messages = i .messages;
+      writing = i .writing;
+      metadata = i .metadata;
+      recoverers = λ k. at-number (RecovererOk (world ns c)) (c .recoverers) r k R no-recoverer (λ _. h) (i .recoverers k);
+      flags = i .flags;
+      writers = i .writers;
+      ledgers = i .ledgers;
+    }
 
 -- bookies ------------------------------------------------------------------------------------------------------------
 -- what a bookie holds and fences it goes on to
@@ -57,7 +74,7 @@ grows-same B = record { held = λ l e h. h; fenced = λ l h. h; flags = refl }
 abbrev with-bookies : World → (ℕ → Bookie) → (ℕ → ℕ → ℕ → Bool) → World
 with-bookies x bs ak =
     record
-      { bookie = bs; writer = x .writer; ledger = x .ledger; contents = x .contents; acked = ak; writers = x .writers; ledgers = x .ledgers }
+    { bookie = bs; writer = x .writer; ledger = x .ledger; contents = x .contents; acked = ak; writers = x .writers; ledgers = x .ledgers }
 
 -- bookies grow, and an acknowledgement is given only by an unfenced one
 pub bookies-later : (x : World) (bs : ℕ → Bookie) (ak : ℕ → ℕ → ℕ → Bool) → ((b : ℕ) → Grows (x .bookie b) (bs b))
@@ -65,9 +82,19 @@ pub bookies-later : (x : World) (bs : ℕ → Bookie) (ak : ℕ → ℕ → ℕ 
     → ((l e b : ℕ) → is-fenced (x .bookie b) l ≡ true → ak l e b ≡ true → x .acked l e b ≡ true)
     → Later x (with-bookies x bs ak)
 bookies-later x bs ak g m f =
-    record
-      { contents = λ l e body h. h; acked = m; barred = f; held = λ l e b. g b .held l e; fenced = λ l b. g b .fenced l; lac = λ l. omega arith
-      ; frozen = λ l s. (refl, s, λ v h. h); closed = λ l h. (h, refl); flags = λ b. g b .flags; writers = refl; ledgers = refl }
+    record {
+      contents = λ l e body h. h;
+      acked = m;
+      barred = f;
+      held = λ l e b. g b .held l e;
+      fenced = λ l b. g b .fenced l;
+      lac = λ l. omega arith;
+      frozen = λ l s. (refl, s, λ v h. h);
+      closed = λ l h. (h, refl);
+      flags = λ b. g b .flags;
+      writers = refl;
+      ledgers = refl;
+    }
 
 pub bookies-inv : {x₀ : World} (x : World) (bs : ℕ → Bookie) (ak : ℕ → ℕ → ℕ → Bool) {rs : ℕ → Recoverer} {ms : List Message}
     → Later x (with-bookies x bs ak) → Inv x₀ x rs ms → ((b : ℕ) → All (CopyOk x) (bs b .entries))
@@ -109,10 +136,19 @@ pub writer-later : (ns ks : List Note) (c : Cluster) (l : ℕ) (w′ : Writer) �
     → ((k e : ℕ) (body : Body) → ContentAt (contents-of ns k) e body → ContentAt (contents-of ks k) e body)
     → ((k e b : ℕ) → acked-by ks k e b ≡ acked-by ns k e b) → Later (world ns c) (world ks (with-writer c l w′))
 writer-later ns ks c l w′ a ts same =
-    record
-      { contents = ts; acked = λ k e b h. same k e b ∙ h; barred = λ k e b f h. sym (same k e b) ∙ h; held = λ k e b h. h; fenced = λ k b h. h
-      ; lac = λ k. all k .lac; frozen = λ k s. (all k .layout, s, λ v u. u); closed = λ k h. (h, refl); flags = λ b. refl
-      ; writers = length-set (c .writers) (row (c .writers) l) w′; ledgers = refl }
+    record {
+      contents = ts;
+      acked = λ k e b h. same k e b ∙ h;
+      barred = λ k e b f h. sym (same k e b) ∙ h;
+      held = λ k e b h. h;
+      fenced = λ k b h. h;
+      lac = λ k. all k .lac;
+      frozen = λ k s. (all k .layout, s, λ v u. u);
+      closed = λ k h. (h, refl);
+      flags = λ b. refl;
+      writers = length-set (c .writers) (row (c .writers) l) w′;
+      ledgers = refl;
+    }
   where
     all : (k : ℕ) → Advances (writer-of c k) (writer-of (with-writer c l w′) k)
     all k = number-rel Advances advances-same (c .writers) l k w′ no-writer a
@@ -122,13 +158,14 @@ pub writer-inv : {x₀ : World} (ns : List Note) (c : Cluster) (l : ℕ) (w′ :
 writer-inv ns c l w′ i h =
     inv-later t i (i .acked) (λ b. copies-later t (bookie-of c b .entries) (i .copies b))
     (λ k. at-number (WriterOk (contents-of ns k) (acked-by ns k)) (c .writers) l k w′ no-writer
-      (λ q. subst (λ (n : ℕ). WriterOk (contents-of ns n) (acked-by ns n) w′) (sym q) (h .writer)) (i .writing k))
+    (λ q. subst (λ (n : ℕ). WriterOk (contents-of ns n) (acked-by ns n) w′) (sym q) (h .writer)) (i .writing k))
     (λ k. at-number (λ w. LedgerOk y k w (ledger-of c k)) (c .writers) l k w′ no-writer
-      (λ q. subst (λ (n : ℕ). LedgerOk y n w′ (ledger-of c n)) (sym q) (ledger-later t l w′ (ledger-of c l) (h .ledger)))
-      (ledger-later t k (writer-of c k) (ledger-of c k) (i .metadata k)))
+    (λ q. subst (λ (n : ℕ). LedgerOk y n w′ (ledger-of c n)) (sym q) (ledger-later t l w′ (ledger-of c l) (h .ledger)))
+    (ledger-later t k (writer-of c k) (ledger-of c k) (i .metadata k)))
   where
     y : World
     y = world ns (with-writer c l w′)
+
     t : Later (world ns c) y
     t = writer-later ns ns c l w′ (h .advances) (λ k e body z. z) (λ k e b. refl)
 
@@ -154,9 +191,11 @@ open-shut m o (inr k) = true≢false (ap open-code (sym o ∙ k))
 -- anything may follow an open ledger's metadata
 pub open-succeeds : (m m′ : Metadata) → m .state ≡ Open → Succeeds m m′
 open-succeeds m m′ o =
-    record
-      { stays = λ s. absurd (open-shut m o s); under = λ v u. absurd (open-shut m o (under-shut m v u))
-      ; closed = λ z. absurd (open-shut m o (inr z)) }
+    record {
+      stays = λ s. absurd (open-shut m o s);
+      under = λ v u. absurd (open-shut m o (under-shut m v u));
+      closed = λ z. absurd (open-shut m o (inr z));
+    }
 
 -- of what a store keeps, as far as it is known
 known-rel : (c : Cluster) (l k : ℕ) (m′ : Metadata) → Succeeds (ledger-of c l) m′ → Succeeds (ledger-of c k) (metadata-of (written (c .store) l m′) k)
@@ -166,11 +205,19 @@ known-rel c l k m′ h =
 pub put-later : (ns : List Note) (c : Cluster) (l : ℕ) (m′ : Metadata) → Succeeds (ledger-of c l) m′
     → Later (world ns c) (world ns (with-store c (written (c .store) l m′)))
 put-later ns c l m′ h =
-    record
-      { contents = λ k e body z. z; acked = λ k e b z. z; barred = λ k e b f z. z; held = λ k e b z. z; fenced = λ k b z. z; lac = λ k. omega arith
-      ; frozen = λ k s. let r = known-rel c l k m′ h in (refl, r .stays s, r .under)
-      ; closed = λ k. known-rel c l k m′ h .closed; flags = λ b. refl; writers = refl
-      ; ledgers = length-set (c .store .ledgers) (row (c .store .ledgers) l) (Some m′) }
+    record {
+      contents = λ k e body z. z;
+      acked = λ k e b z. z;
+      barred = λ k e b f z. z;
+      held = λ k e b z. z;
+      fenced = λ k b z. z;
+      lac = λ k. omega arith;
+      frozen = λ k s. let r = known-rel c l k m′ h in (refl, r .stays s, r .under);
+      closed = λ k. known-rel c l k m′ h .closed;
+      flags = λ b. refl;
+      writers = refl;
+      ledgers = length-set (c .store .ledgers) (row (c .store .ledgers) l) (Some m′);
+    }
 
 -- the metadata of one ledger alone changes
 pub put-inv : {x₀ : World} (ns : List Note) (c : Cluster) (l : ℕ) (m′ : Metadata) → Succeeds (ledger-of c l) m′
@@ -178,11 +225,12 @@ pub put-inv : {x₀ : World} (ns : List Note) (c : Cluster) (l : ℕ) (m′ : Me
 put-inv ns c l m′ s h i =
     inv-later t i (i .acked) (λ b. copies-later t (bookie-of c b .entries) (i .copies b)) (i .writing)
     (λ k. at-number (λ o. LedgerOk y k (writer-of c k) (known o)) (c .store .ledgers) l k (Some m′) None
-      (λ q. subst (λ (n : ℕ). LedgerOk y n (writer-of c n) m′) (sym q) (ledger-later t l (writer-of c l) m′ h))
-      (ledger-later t k (writer-of c k) (ledger-of c k) (i .metadata k)))
+    (λ q. subst (λ (n : ℕ). LedgerOk y n (writer-of c n) m′) (sym q) (ledger-later t l (writer-of c l) m′ h))
+    (ledger-later t k (writer-of c k) (ledger-of c k) (i .metadata k)))
   where
     y : World
     y = world ns (with-store c (written (c .store) l m′))
+
     t : Later (world ns c) y
     t = put-later ns c l m′ s
 
@@ -213,17 +261,25 @@ record Moves (w w′ : Writer) (m m′ : Metadata) : Type 0 where
 pub puts-later : (ns : List Note) (c : Cluster) (l : ℕ) (w′ : Writer) (m′ : Metadata) → HasRow (c .writers) l → HasRow (c .store .ledgers) l
     → Puts (world ns c) l (writer-of c l) w′ (ledger-of c l) m′ → Later (world ns c) (world ns (put-by-writer c l w′ m′))
 puts-later ns c l w′ m′ inW inL h =
-    record
-      { contents = λ k e body z. z; acked = λ k e b z. z; barred = λ k e b f z. z; held = λ k e b z. z; fenced = λ k b z. z; lac = λ k. all k .lac
-      ; frozen = λ k s. (all k .layout s, all k .ledger .stays s, all k .ledger .under); closed = λ k. all k .ledger .closed; flags = λ b. refl
-      ; writers = length-set (c .writers) (row (c .writers) l) w′
-      ; ledgers = length-set (c .store .ledgers) (row (c .store .ledgers) l) (Some m′) }
+    record {
+      contents = λ k e body z. z;
+      acked = λ k e b z. z;
+      barred = λ k e b f z. z;
+      held = λ k e b z. z;
+      fenced = λ k b z. z;
+      lac = λ k. all k .lac;
+      frozen = λ k s. (all k .layout s, all k .ledger .stays s, all k .ledger .under);
+      closed = λ k. all k .ledger .closed;
+      flags = λ b. refl;
+      writers = length-set (c .writers) (row (c .writers) l) w′;
+      ledgers = length-set (c .store .ledgers) (row (c .store .ledgers) l) (Some m′);
+    }
   where
     all : (k : ℕ) → Moves (writer-of c k) (writer-of (put-by-writer c l w′ m′) k) (ledger-of c k) (ledger-of (put-by-writer c l w′ m′) k)
     all k =
         at-both c l w′ m′ k (λ w m. Moves (writer-of c k) w (ledger-of c k) m) inW inL
         (λ q. subst (λ (n : ℕ). Moves (writer-of c n) w′ (ledger-of c n) m′) (sym q)
-          (record { lac = h .lac; layout = λ s. absurd (open-shut (ledger-of c l) (h .was-open) s); ledger = open-succeeds (ledger-of c l) m′ (h .was-open) }))
+        (record { lac = h .lac; layout = λ s. absurd (open-shut (ledger-of c l) (h .was-open) s); ledger = open-succeeds (ledger-of c l) m′ (h .was-open) }))
         (λ _. record { lac = omega arith; layout = λ _. refl; ledger = succeeds-same (ledger-of c k) })
 
 pub puts-inv : {x₀ : World} (ns : List Note) (c : Cluster) (l : ℕ) (w′ : Writer) (m′ : Metadata) → HasRow (c .writers) l → HasRow (c .store .ledgers) l
@@ -231,10 +287,10 @@ pub puts-inv : {x₀ : World} (ns : List Note) (c : Cluster) (l : ℕ) (w′ : W
 puts-inv ns c l w′ m′ inW inL h i =
     inv-later t i (i .acked) (λ b. copies-later t (bookie-of c b .entries) (i .copies b))
     (λ k. at-number (WriterOk (contents-of ns k) (acked-by ns k)) (c .writers) l k w′ no-writer
-      (λ q. subst (λ (n : ℕ). WriterOk (contents-of ns n) (acked-by ns n) w′) (sym q) (h .writer)) (i .writing k))
+    (λ q. subst (λ (n : ℕ). WriterOk (contents-of ns n) (acked-by ns n) w′) (sym q) (h .writer)) (i .writing k))
     (λ k. at-both c l w′ m′ k (LedgerOk (world ns (put-by-writer c l w′ m′)) k) inW inL
-      (λ q. subst (λ (n : ℕ). LedgerOk (world ns (put-by-writer c l w′ m′)) n w′ m′) (sym q) (ledger-later t l w′ m′ (h .ledger)))
-      (λ _. ledger-later t k (writer-of c k) (ledger-of c k) (i .metadata k)))
+    (λ q. subst (λ (n : ℕ). LedgerOk (world ns (put-by-writer c l w′ m′)) n w′ m′) (sym q) (ledger-later t l w′ m′ (h .ledger)))
+    (λ _. ledger-later t k (writer-of c k) (ledger-of c k) (i .metadata k)))
   where
     t : Later (world ns c) (world ns (put-by-writer c l w′ m′))
     t = puts-later ns c l w′ m′ inW inL h

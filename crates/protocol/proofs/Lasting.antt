@@ -36,8 +36,10 @@ barred-later {x} {y} t l e b h =
   where
     f : is-fenced (x .bookie b) l ≡ true
     f = and-parts (is-fenced (x .bookie b) l) (not (x .acked l e b)) h .0
+
     n : x .acked l e b ≡ false
     n = not-true (x .acked l e b) (and-parts (is-fenced (x .bookie b) l) (not (x .acked l e b)) h .1)
+
     never : (v : Bool) → y .acked l e b ≡ v → not v ≡ true
     never true q = absurd (both-ways (x .acked l e b) n (t .barred l e b f q))
     never false q = refl
@@ -82,17 +84,20 @@ under-shut m v (inr h) = inr (h .0)
 work-later : {x y : World} → Later x y → (R : Recoverer) → WorkOk x R → WorkOk y R
 work-later {x} {y} t R h =
     let f = t .frozen (R .ledger .0) (under-shut (x .ledger (R .ledger .0)) (R .version .0) (h .under)) in
-    record
-      { same = h .same ∙ sym (f .0); under = f .2 (R .version .0) (h .under)
-      ; below = copied-later t (R .ledger .0) (R .settled .0) (R .layout) (h .below)
-      ; phase = phase-later t R (R .ledger .0) (R .layout) (R .phase) (h .phase) }
+    record {
+      same = h .same ∙ sym (f .0);
+      under = f .2 (R .version .0) (h .under);
+      below = copied-later t (R .ledger .0) (R .settled .0) (R .layout) (h .below);
+      phase = phase-later t R (R .ledger .0) (R .layout) (R .phase) (h .phase);
+    }
 
 state-later : {x y : World} → Later x y → (l : ℕ) (w : Writer) (m : Metadata) (st : LedgerState) → StateOk x l w m st → StateOk y l w m st
 state-later t l w m Open h = h
 state-later t l w m InRecovery h = h
-state-later {x} {y} t l w m Closed h =
-    (copied-later t l (m .closing .0) (m .layout) (h .0)
-    , elim (h .1) [ inl k ↦ inl k | inr k ↦ inr (k .0, sealed-later t l (m .closing .0) (w .layout) (k .1)) ])
+state-later {x} {y} t l w m Closed h = (
+  copied-later t l (m .closing .0) (m .layout) (h .0),
+  elim (h .1) [ inl k ↦ inl k | inr k ↦ inr (k .0, sealed-later t l (m .closing .0) (w .layout) (k .1)) ],
+)
 
 pub ledger-later : {x y : World} → Later x y → (l : ℕ) (w : Writer) (m : Metadata) → LedgerOk x l w m → LedgerOk y l w m
 ledger-later t l w m h = record { free = h .free; state = state-later t l w m (m .state) (h .state); layout = h .layout }
@@ -105,30 +110,48 @@ pending-more ts A B f u e (p ∷ ps) h = (h .0, (λ q m. f e (bookie-at u e q) (
 
 pub writer-more : (ts : List Body) (A B : ℕ → ℕ → Bool) (w : Writer) → ((e b : ℕ) → A e b ≡ true → B e b ≡ true) → WriterOk ts A w → WriterOk ts B w
 writer-more ts A B w f h =
-    record
-      { upto = h .upto; small = h .small
-      ; firm = λ e k. let p = h .firm e k in let q = tally-mono (A e) (B e) (bookies-of (w .layout) e) (f e) in omega arith
-      ; pending = λ a b. pending-more ts A B f (w .layout) (w .lac) (w .pending) (h .pending a b)
-      ; first = h .first; blank = h .blank; layout = h .layout }
+    record {
+      upto = h .upto;
+      small = h .small;
+      firm = λ e k. let p = h .firm e k in let q = tally-mono (A e) (B e) (bookies-of (w .layout) e) (f e) in omega arith;
+      pending = λ a b. pending-more ts A B f (w .layout) (w .lac) (w .pending) (h .pending a b);
+      first = h .first;
+      blank = h .blank;
+      layout = h .layout;
+    }
 
 -- worlds follow one another ------------------------------------------------------------------------------------------
 pub later-refl : (x : World) → Later x x
 later-refl x =
-    record
-      { contents = λ l e body h. h; acked = λ l e b h. h; barred = λ l e b f h. h; held = λ l e b h. h; fenced = λ l b h. h
-      ; lac = λ l. omega arith; frozen = λ l s. (refl, s, λ v h. h); closed = λ l h. (h, refl); flags = λ b. refl
-      ; writers = refl; ledgers = refl }
+    record {
+      contents = λ l e body h. h;
+      acked = λ l e b h. h;
+      barred = λ l e b f h. h;
+      held = λ l e b h. h;
+      fenced = λ l b h. h;
+      lac = λ l. omega arith;
+      frozen = λ l s. (refl, s, λ v h. h);
+      closed = λ l h. (h, refl);
+      flags = λ b. refl;
+      writers = refl;
+      ledgers = refl;
+    }
 
 pub later-trans : {x y z : World} → Later x y → Later y z → Later x z
 later-trans {x} {y} {z} s t =
-    record
-      { contents = λ l e body h. t .contents l e body (s .contents l e body h); acked = λ l e b h. t .acked l e b (s .acked l e b h)
-      ; barred = λ l e b f h. s .barred l e b f (t .barred l e b (s .fenced l b f) h)
-      ; held = λ l e b h. t .held l e b (s .held l e b h); fenced = λ l b h. t .fenced l b (s .fenced l b h)
-      ; lac = λ l. let p = s .lac l in let q = t .lac l in omega arith
-      ; frozen = λ l h. let p = s .frozen l h in let q = t .frozen l (p .1) in (q .0 ∙ p .0, q .1, λ v u. q .2 v (p .2 v u))
-      ; closed = λ l h. let p = s .closed l h in let q = t .closed l (p .0) in (q .0, q .1 ∙ p .1)
-      ; flags = λ b. t .flags b ∙ s .flags b; writers = t .writers ∙ s .writers; ledgers = t .ledgers ∙ s .ledgers }
+    record {
+      contents = λ l e body h. t .contents l e body (s .contents l e body h);
+      acked = λ l e b h. t .acked l e b (s .acked l e b h);
+      barred = λ l e b f h. s .barred l e b f (t .barred l e b (s .fenced l b f) h);
+      held = λ l e b h. t .held l e b (s .held l e b h);
+      fenced = λ l b h. t .fenced l b (s .fenced l b h);
+      lac = λ l. let p = s .lac l in let q = t .lac l in omega arith;
+      frozen = λ l h. let p = s .frozen l h in let q = t .frozen l (p .1) in (q .0 ∙ p .0, q .1, λ v u. q .2 v (p .2 v u));
+      closed = λ l h. let p = s .closed l h in let q = t .closed l (p .0) in (q .0, q .1 ∙ p .1);
+      flags = λ b. t .flags b ∙ s .flags b;
+      writers = t .writers ∙ s .writers;
+      ledgers = t .ledgers ∙ s .ledgers;
+    }
 
 -- from a world to a later one, where acknowledgements, copies, writers and metadata are seen to anew
 pub inv-later : {x₀ x y : World} {rs : ℕ → Recoverer} {ms : List Message} → Later x y → Inv x₀ x rs ms
@@ -137,7 +160,15 @@ pub inv-later : {x₀ x y : World} {rs : ℕ → Recoverer} {ms : List Message} 
     → ((l : ℕ) → WriterOk (y .contents l) (y .acked l) (y .writer l))
     → ((l : ℕ) → LedgerOk y l (y .writer l) (y .ledger l)) → Inv x₀ y rs ms
 inv-later {x₀} {x} {y} {rs} {ms} t i a h w s =
-    record
-      { since = later-trans (i .since) t; acked = a; copies = h; messages = all-weaker (MessageOk x) (MessageOk y) (message-later t) ms (i .messages)
-      ; writing = w; metadata = s; recoverers = λ r z. work-later t (rs r) (i .recoverers r z)
-      ; flags = λ b. t .flags b ∙ i .flags b; writers = t .writers ∙ i .writers; ledgers = t .ledgers ∙ i .ledgers }
+    record {
+      since = later-trans (i .since) t;
+      acked = a;
+      copies = h;
+      messages = all-weaker (MessageOk x) (MessageOk y) (message-later t) ms (i .messages);
+      writing = w;
+      metadata = s;
+      recoverers = λ r z. work-later t (rs r) (i .recoverers r z);
+      flags = λ b. t .flags b ∙ i .flags b;
+      writers = t .writers ∙ i .writers;
+      ledgers = t .ledgers ∙ i .ledgers;
+    }

@@ -118,10 +118,11 @@ row-or-blank xs (suc i) d =
 pub at-number-blank : {A : Type 0} (P : A → Type 0) (xs : List A) (i j : ℕ) (a d : A) → P d → (j ≡ i → P a)
     → ((j ≡ i → ⊥) → P (numbered xs j d)) → P (numbered (renumbered xs i a) j d)
 at-number-blank P xs i j a d blank f g =
-    elim (row-or-blank xs i d)
-    [ inl z ↦ at-number-in P xs i j a d z f g
-    | inr z ↦ at-number P xs i j a d f
-        (elim (cases-eq j i) [ inl q ↦ subst (λ (k : ℕ). P (numbered xs k d)) (sym q) (subst P (sym z) blank) | inr ne ↦ g ne ]) ]
+    elim (row-or-blank xs i d) [
+      | inl z ↦ at-number-in P xs i j a d z f g
+      | inr z ↦ at-number P xs i j a d f
+          (elim (cases-eq j i) [ inl q ↦ subst (λ (k : ℕ). P (numbered xs k d)) (sym q) (subst P (sym z) blank) | inr ne ↦ g ne ])
+    ]
 
 -- a ledger that there can be has a row in a table of all
 pub ledger-row : {A : Type 0} (xs : List A) (l : ℕ) → length xs ≡ max-ledgers → is-ledger l ≡ true → HasRow xs l
@@ -152,7 +153,7 @@ tally-mono t u [] h = omega arith
 tally-mono t u (x ∷ xs) h = one (t x) (u x) (h x) (tally-mono t u xs h)
   where
     one : (a b : Bool) → (a ≡ true → b ≡ true) → tally t xs ≤ tally u xs
-      → cond a (suc (tally t xs)) (tally t xs) ≤ cond b (suc (tally u xs)) (tally u xs)
+        → cond a (suc (tally t xs)) (tally t xs) ≤ cond b (suc (tally u xs)) (tally u xs)
     one true true f k = omega arith
     one true false f k = absurd (true≢false (sym (f refl)))
     one false true f k = omega arith
@@ -168,7 +169,7 @@ pigeon t u [] h = omega arith
 pigeon t u (x ∷ xs) h = one (t x) (u x) (h x) (pigeon t u xs h)
   where
     one : (a b : Bool) → (a ≡ true → b ≡ true → ⊥) → tally t xs + tally u xs ≤ length xs
-      → cond a (suc (tally t xs)) (tally t xs) + cond b (suc (tally u xs)) (tally u xs) ≤ suc (length xs)
+        → cond a (suc (tally t xs)) (tally t xs) + cond b (suc (tally u xs)) (tally u xs) ≤ suc (length xs)
     one true true f k = absurd (f refl refl)
     one true false f k = omega arith
     one false true f k = omega arith
@@ -182,7 +183,7 @@ mark-is P bs [] b m h k = h
 mark-is P bs (p ∷ ps) b m h k =
     cond-both (eqb (getD bs p 0) b) (set m p true) (mark bs ps b m) (λ m′. (q : ℕ) → marked m′ q ≡ true → P (getD bs q 0))
     (λ e q. at-set (λ v. v ≡ true → P (getD bs q 0)) m p q true false
-      (λ same _. subst P (sym (ap (λ (z : ℕ). getD bs z 0) same ∙ eqb-true (getD bs p 0) b e)) k) (h q))
+    (λ same _. subst P (sym (ap (λ (z : ℕ). getD bs z 0) same ∙ eqb-true (getD bs p 0) b e)) k) (h q))
     (λ _. mark-is P bs ps b m h k)
 
 pub none-marked : (q : ℕ) → marked no-marks q ≡ true → ⊥

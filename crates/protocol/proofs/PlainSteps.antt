@@ -34,7 +34,7 @@ pub duplicate-keeps : {x₀ : World} (ns : List Note) (c : Cluster) (m : Message
 duplicate-keeps {x₀} ns c m i =
     ask-cases c (Keeps x₀ ns c (Duplicate m)) (waits c m) (fault.Missing 1) _ i
     (λ q. with-messages (sent-one (c .queue) (message-at c m) .waiting) i
-      (all-sent-one (MessageOk (world ns c)) (c .queue) (message-at c m) (i .messages) (waiting-ok ns c m i q)))
+    (all-sent-one (MessageOk (world ns c)) (c .queue) (message-at c m) (i .messages) (waiting-ok ns c m i q)))
 
 -- stopped or started, a bookie holds and fences what it did
 turn-inv : {x₀ : World} (ns : List Note) (c : Cluster) (b : BookieId) (u : Bool) → InvAt x₀ ns c → InvAt x₀ ns (turn c b u .next)

@@ -54,9 +54,9 @@ both-passed (Err f) s b h = ok-not-err f b h
 -- of the store, answer and store after together
 module _ (s : Store) (l : LedgerId) (P : Result Version StoreFault → Store → Type 0) where
   pub create-cases : (y : Layout) → ((f : StoreFault) → P (Err f) s)
-    → (is-ledger (l .0) ≡ true → exists s (l .0) ≡ false
+      → (is-ledger (l .0) ≡ true → exists s (l .0) ≡ false
       → P (Ok (version-id 1)) (written s (l .0) (record { version = version-id 1; state = Open; layout = y; closing = lac-id 0 })))
-    → P (create-answer s l) (create-after s l y)
+      → P (create-answer s l) (create-after s l y)
   create-cases y bad good =
       let new = written s (l .0) (record { version = version-id 1; state = Open; layout = y; closing = lac-id 0 }) in
       asked (is-ledger (l .0)) denied.Range _ (λ r. P r (when-ok r new s)) (bad denied.Range)
@@ -65,11 +65,11 @@ module _ (s : Store) (l : LedgerId) (P : Result Version StoreFault → Store →
       (λ _. good q30 (not-true (exists s (l .0)) q31))))
 
   pub put-cases : (v : Version) (st : LedgerState) (y : Layout) (n : Lac)
-    → ((f : StoreFault) → is-version f ≡ false → P (Err f) s)
-    → ((metadata-of s (l .0) .version .0 ≡ v .0 → ⊥) → P (Err denied.Version) s)
-    → (is-ledger (l .0) ≡ true → metadata-of s (l .0) .version .0 ≡ v .0
+      → ((f : StoreFault) → is-version f ≡ false → P (Err f) s)
+      → ((metadata-of s (l .0) .version .0 ≡ v .0 → ⊥) → P (Err denied.Version) s)
+      → (is-ledger (l .0) ≡ true → metadata-of s (l .0) .version .0 ≡ v .0
       → P (Ok (version-id (suc (v .0)))) (written s (l .0) (record { version = version-id (suc (v .0)); state = st; layout = y; closing = n })))
-    → P (put-answer s l v) (put-after s l v st y n)
+      → P (put-answer s l v) (put-after s l v st y n)
   put-cases v st y n bad other good =
       let new = written s (l .0) (record { version = version-id (suc (v .0)); state = st; layout = y; closing = n }) in
       asked (is-ledger (l .0)) denied.Range _ (λ r. P r (when-ok r new s)) (bad denied.Range refl)
@@ -78,8 +78,9 @@ module _ (s : Store) (l : LedgerId) (P : Result Version StoreFault → Store →
     where
       P′ : Result Version StoreFault → Type 0
       P′ r = P r (when-ok r (written s (l .0) (record { version = version-id (suc (v .0)); state = st; layout = y; closing = n })) s)
+
       version : (b : Bool) → eqb (metadata-of s (l .0) .version .0) (v .0) ≡ b → is-ledger (l .0) ≡ true
-        → P′ (question b denied.Version (question (leb 1 (s .changes)) denied.Full (Ok (version-id (suc (v .0))))))
+          → P′ (question b denied.Version (question (leb 1 (s .changes)) denied.Full (Ok (version-id (suc (v .0))))))
       version false q _ = other (eqb-false (metadata-of s (l .0) .version .0) (v .0) q)
       version true q q30 =
           asked (leb 1 (s .changes)) denied.Full _ P′ (bad denied.Full refl)

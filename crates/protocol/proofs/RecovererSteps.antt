@@ -56,14 +56,17 @@ begun-inv ns c r l v y i same under =
   where
     R : Recoverer
     R = new-recoverer l v y
+
     work : WorkOk (world ns c) R
     work =
-        record
-          { same = same; under = under
-          ; below =
+        record {
+          same = same;
+          under = under;
+          below =
               subst (λ (u : Layout). Copied (world ns c) (l .0) (last-first u) u) (sym same)
-              (λ e k. lac-copied i (l .0) e (let f = i .writing (l .0) .first in omega arith))
-          ; phase = tt }
+              (λ e k. lac-copied i (l .0) e (let f = i .writing (l .0) .first in omega arith));
+          phase = tt;
+        }
 
 pub recover-keeps : {x₀ : World} (ns : List Note) (c : Cluster) (r : RecovererId) (l : LedgerId) → InvAt x₀ ns c → Keeps x₀ ns c (Recover r l) (recover c r l)
 recover-keeps {x₀} ns c r l i =
@@ -75,26 +78,32 @@ recover-keeps {x₀} ns c r l i =
   where
     K : Outcome → Type 0
     K o = InvAt x₀ ns (o .next)
+
     m : Metadata
     m = ledger-of c (l .0)
+
     K′ : Result Metadata StoreFault → Type 0
     K′ g =
         K (by-client c (recover-with (c .store) l g)
-          (λ v. begun (with-store c (recover-store (c .store) l)) r (new-recoverer l v (ledger-of c (l .0) .layout))))
+        (λ v. begun (with-store c (recover-store (c .store) l)) r (new-recoverer l v (ledger-of c (l .0) .layout))))
+
     m′ : Metadata
     m′ = record { version = version-id (suc (m .version .0)); state = InRecovery; layout = m .layout; closing = lac-id 0 }
+
     by : (st : LedgerState) → m .state ≡ st → is-ledger (l .0) ≡ true
-      → K (by-client c (begin-answer (c .store) l m st) (λ v. begun (with-store c (begin-store (c .store) l m st)) r (new-recoverer l v (m .layout))))
+        → K (by-client c (begin-answer (c .store) l m st) (λ v. begun (with-store c (begin-store (c .store) l m st)) r (new-recoverer l v (m .layout))))
     by Open o q30 =
         put-cases (c .store) l (λ a s. K (by-client c (by-store a) (λ v. begun (with-store c s) r (new-recoverer l v (m .layout)))))
         (m .version) InRecovery (m .layout) (lac-id 0) (λ f _. i) (λ _. i)
         (λ _ _. begun-inv ns (with-store c (written (c .store) (l .0) m′)) r l (version-id (suc (m .version .0))) (m .layout)
-          (put-inv ns c (l .0) m′ (open-succeeds m m′ o)
-            (record
-              { free = λ z. let b : ⊥ = omega arith in absurd b; state = (let k = old .0 in omega arith, old .1, old .2)
-              ; layout = i .metadata (l .0) .layout }) i)
-          (old .2)
-          (rw (number-same (c .store .ledgers) (l .0) (Some m′) None (ledger-row (c .store .ledgers) (l .0) (i .ledgers) q30)) (inl (refl, refl))))
+        (put-inv ns c (l .0) m′ (open-succeeds m m′ o)
+        (record {
+          free = λ z. let b : ⊥ = omega arith in absurd b;
+          state = (let k = old .0 in omega arith, old .1, old .2);
+          layout = i .metadata (l .0) .layout;
+        }) i)
+        (old .2)
+        (rw (number-same (c .store .ledgers) (l .0) (Some m′) None (ledger-row (c .store .ledgers) (l .0) (i .ledgers) q30)) (inl (refl, refl))))
       where
         old : StateOk (world ns c) (l .0) (writer-of c (l .0)) m Open
         old = subst (StateOk (world ns c) (l .0) (writer-of c (l .0)) m) o (i .metadata (l .0) .state)
@@ -124,34 +133,43 @@ finish-keeps {x₀} ns c r i =
     ask-cases c K (at-work (R .phase)) (fault.Missing 1) _ i
     (λ q4. asked (is-ended (R .phase)) client.Unfinished _ (λ a. K (by-client c a (λ n. done (answer.ClosingEntry n) (with-recoverer (with-store c (finish-store R (c .store))) (r .0) no-recoverer)))) i
     (λ q13. put-cases (c .store) (R .ledger)
-      (λ a s. K (by-client c (finished R (c .store) a) (λ n. done (answer.ClosingEntry n) (with-recoverer (with-store c s) (r .0) no-recoverer))))
-      (R .version) Closed (R .layout) (R .settled) (λ f q. rw q i) (λ _. idle-inv ns c (r .0) i)
-      (λ q30 v. idle-inv ns (with-store c (written (c .store) (R .ledger .0) m′)) (r .0) (close-it (i .recoverers (r .0) q4) (ended-is (R .phase) q13) v))))
+    (λ a s. K (by-client c (finished R (c .store) a) (λ n. done (answer.ClosingEntry n) (with-recoverer (with-store c s) (r .0) no-recoverer))))
+    (R .version) Closed (R .layout) (R .settled) (λ f q. rw q i) (λ _. idle-inv ns c (r .0) i)
+    (λ q30 v. idle-inv ns (with-store c (written (c .store) (R .ledger .0) m′)) (r .0) (close-it (i .recoverers (r .0) q4) (ended-is (R .phase) q13) v))))
   where
     K : Outcome → Type 0
     K o = InvAt x₀ ns (o .next)
+
     R : Recoverer
     R = recoverer-of c (r .0)
+
     m : Metadata
     m = ledger-of c (R .ledger .0)
+
     m′ : Metadata
     m′ = record { version = version-id (suc (R .version .0)); state = Closed; layout = R .layout; closing = R .settled }
+
     close-it : WorkOk (world ns c) R → R .phase ≡ Ended → m .version .0 ≡ R .version .0 → InvAt x₀ ns (with-store c (written (c .store) (R .ledger .0) m′))
     close-it w ph v =
         put-inv ns c (R .ledger .0) m′
-        (record
-          { stays = λ _. inr refl; closed = λ z. absurd (not-closed (w .under) z)
-          ; under = λ n u. inr (refl, elim u [ inl z ↦ (let y = z .1 in omega arith) | inr z ↦ (let y = z .1 in omega arith) ]) })
-        (record
-          { free = λ z. let b : ⊥ = omega arith in absurd b
-          ; state =
-              (w .below
-              , inr (lower (w .under), subst (Sealed (world ns c) (R .ledger .0) (R .settled .0)) (w .same) (subst (PhaseOk (world ns c) R (R .ledger .0) (R .layout)) ph (w .phase))))
-          ; layout = subst LayoutOk (sym (w .same)) (i .writing (R .ledger .0) .layout) }) i
+        (record {
+          stays = λ _. inr refl;
+          closed = λ z. absurd (not-closed (w .under) z);
+          under = λ n u. inr (refl, elim u [ inl z ↦ (let y = z .1 in omega arith) | inr z ↦ (let y = z .1 in omega arith) ]);
+        })
+        (record {
+          free = λ z. let b : ⊥ = omega arith in absurd b;
+          state = (
+            w .below,
+            inr (lower (w .under), subst (Sealed (world ns c) (R .ledger .0) (R .settled .0)) (w .same) (subst (PhaseOk (world ns c) R (R .ledger .0) (R .layout)) ph (w .phase))),
+          );
+          layout = subst LayoutOk (sym (w .same)) (i .writing (R .ledger .0) .layout);
+        }) i
       where
         not-closed : Under m (R .version .0) → m .state ≡ Closed → ⊥
         not-closed (inl z) y = true≢false (ap closed-code (sym y ∙ z .0))
         not-closed (inr z) y = let u = z .1 in omega arith
+
         lower : Under m (R .version .0) → writer-of c (R .ledger .0) .version < suc (R .version .0)
         lower (inl z) = let y = subst (StateOk (world ns c) (R .ledger .0) (writer-of c (R .ledger .0)) m) (z .0) (i .metadata (R .ledger .0) .state) .0 in omega arith
         lower (inr z) = let y = z .1 in let b : ⊥ = omega arith in absurd b

@@ -56,11 +56,13 @@ mark-pending : (ts : List Body) (A : ℕ → ℕ → Bool) (y : Layout) (e b k :
 mark-pending ts A y e b k [] a h = h
 mark-pending ts A y e b k (p ∷ ps) a h =
     cond-both (eqb e k) (marked-add y e b p ∷ ps) (p ∷ marked-adds y e b (suc k) ps) (PendingOk ts A y k)
-    (λ q. (h .0
-      , subst (λ (n : ℕ). (v : ℕ) → marked (mark (fragment-of y n .bookies) (write-set (y .sizes) n) b (p .marks)) v ≡ true → A k (bookie-at y k v) ≡ true)
+    (λ q. (
+      h .0,
+      subst (λ (n : ℕ). (v : ℕ) → marked (mark (fragment-of y n .bookies) (write-set (y .sizes) n) b (p .marks)) v ≡ true → A k (bookie-at y k v) ≡ true)
           (sym (eqb-true e k q))
-          (mark-is (λ v. A k v ≡ true) (fragment-of y k .bookies) (write-set (y .sizes) k) b (p .marks) (h .1) (subst (λ (n : ℕ). A n b ≡ true) (eqb-true e k q) a))
-      , h .2))
+          (mark-is (λ v. A k v ≡ true) (fragment-of y k .bookies) (write-set (y .sizes) k) b (p .marks) (h .1) (subst (λ (n : ℕ). A n b ≡ true) (eqb-true e k q) a)),
+      h .2,
+    ))
     (λ _. (h .0, h .1, mark-pending ts A y e b (suc k) ps a (h .2)))
 
 record FrontOk (ts : List Body) (A : ℕ → ℕ → Bool) (y : Layout) (e : ℕ) (f : Front) : Type 0 where
@@ -76,11 +78,12 @@ confirm-ok ts A y e [] u f h = record { grown = omega arith; upto = u; firm = f;
 confirm-ok ts A y e (p ∷ ps) u f h =
     cond-both (is-acknowledged y e p) (confirmed y (suc e) ps) (record { lac = e; pending = p ∷ ps }) (FrontOk ts A y e)
     (λ q. let g = confirm-ok ts A y (suc e) ps (h .0 .0) (λ k. firm k (leb-true (y .sizes .ack) _ q)) (h .2) in
-      record { grown = let z = g .grown in omega arith; upto = g .upto; firm = g .firm; pending = g .pending })
+    record { grown = let z = g .grown in omega arith; upto = g .upto; firm = g .firm; pending = g .pending })
     (λ _. record { grown = omega arith; upto = u; firm = f; pending = h })
   where
     here : y .sizes .ack ≤ tally (marked (p .marks)) (write-set (y .sizes) e) → y .sizes .ack ≤ tally (A e) (bookies-of y e)
     here z = let c = marks-count (A e) y e (p .marks) (h .1) in omega arith
+
     firm : (k : ℕ) → y .sizes .ack ≤ tally (marked (p .marks)) (write-set (y .sizes) e) → k < suc e → y .sizes .ack ≤ tally (A k) (bookies-of y k)
     firm k z j = elim (cases-eq k e) [ inl s ↦ subst (λ (n : ℕ). y .sizes .ack ≤ tally (A n) (bookies-of y n)) (sym s) (here z) | inr s ↦ f k (omega arith) ]
 
@@ -100,13 +103,20 @@ front-ledger x l w m n ps st o o′ made h =
 pub fenced-becomes : (x : World) (l : ℕ) (w : Writer) (m : Metadata) → is-made (w .state) ≡ true → is-closed (w .state) ≡ false
     → WriterOk (x .contents l) (x .acked l) w → LedgerOk x l w m → Becomes x l w (fenced-writer w) m
 fenced-becomes x l w m made o h k =
-    record
-      { advances = record { lac = omega arith; layout = refl }
-      ; writer =
-          record
-            { upto = h .upto; small = h .small; firm = h .firm; pending = λ f _. absurd (true≢false f); first = h .first
-            ; blank = λ b. absurd (true≢false b); layout = h .layout }
-      ; ledger = front-ledger x l w m (w .lac) [] state.Fenced o refl (λ b. absurd (both-ways (is-made (w .state)) b made)) k }
+    record {
+      advances = record { lac = omega arith; layout = refl };
+      writer =
+          record {
+            upto = h .upto;
+            small = h .small;
+            firm = h .firm;
+            pending = λ f _. absurd (true≢false f);
+            first = h .first;
+            blank = λ b. absurd (true≢false b);
+            layout = h .layout;
+          };
+      ledger = front-ledger x l w m (w .lac) [] state.Fenced o refl (λ b. absurd (both-ways (is-made (w .state)) b made)) k;
+    }
 
 module _ (x : World) (l b e : ℕ) (w : Writer) (m : Metadata) (h : WriterOk (x .contents l) (x .acked l) w) (k : LedgerOk x l w m) where
   same-becomes : Becomes x l w w m
@@ -116,18 +126,25 @@ module _ (x : World) (l b e : ℕ) (w : Writer) (m : Metadata) (h : WriterOk (x 
   good-becomes s g =
       let open-w : is-closed (w .state) ≡ false = ap is-closed s in
       let f =
-            confirm-ok (x .contents l) (x .acked l) (w .layout) (w .lac) (marked-adds (w .layout) e b (w .lac) (w .pending)) (h .upto) (h .firm)
-            (mark-pending (x .contents l) (x .acked l) (w .layout) e b (w .lac) (w .pending) g (h .pending (ap is-shut-out s) open-w)) in
-      record
-        { advances = record { lac = f .grown; layout = refl }
-        ; writer =
-            record
-              { upto = f .upto; small = h .small; firm = f .firm; pending = λ _ _. f .pending; first = let u = h .first in let v = f .grown in omega arith
-              ; blank = h .blank; layout = h .layout }
-        ; ledger = front-ledger x l w m _ _ (w .state) open-w open-w (λ z. z) k }
+      confirm-ok (x .contents l) (x .acked l) (w .layout) (w .lac) (marked-adds (w .layout) e b (w .lac) (w .pending)) (h .upto) (h .firm)
+      (mark-pending (x .contents l) (x .acked l) (w .layout) e b (w .lac) (w .pending) g (h .pending (ap is-shut-out s) open-w)) in
+      record {
+        advances = record { lac = f .grown; layout = refl };
+        writer =
+            record {
+              upto = f .upto;
+              small = h .small;
+              firm = f .firm;
+              pending = λ _ _. f .pending;
+              first = let u = h .first in let v = f .grown in omega arith;
+              blank = h .blank;
+              layout = h .layout;
+            };
+        ledger = front-ledger x l w m _ _ (w .state) open-w open-w (λ z. z) k;
+      }
 
   replied-becomes : (a : Result (Unit {0}) BookieFault) → ((u : Unit {0}) → a ≡ Ok u → x .acked l e b ≡ true) → w .state ≡ state.Writing
-    → Becomes x l w (replied w b e a) m
+      → Becomes x l w (replied w b e a) m
   replied-becomes (Ok u) g s = good-becomes s (g u refl)
   replied-becomes (Err refused.Range) g s = same-becomes
   replied-becomes (Err refused.Stopped) g s = same-becomes
@@ -191,7 +208,7 @@ module _ (x : World) (R : Recoverer) (w : WorkOk x R) where
       (λ q. work-in n Ended h (inl (leb-true max-entries n q))) (λ _. work-in n (Reading no-marks) h (λ q m. absurd (none-marked q m)))
 
   fenced-work : {x₀ : World} {rs : ℕ → Recoverer} {ms : List Message} → Inv x₀ x rs ms → (m : List Bool) (b : BookieId) (n : Lac)
-    → n .0 ≤ x .writer (R .ledger .0) .lac → WorkOk x (heard-fenced R m b n)
+      → n .0 ≤ x .writer (R .ledger .0) .lac → WorkOk x (heard-fenced R m b n)
   fenced-work i m b n k =
       cond-both (covers (R .layout .sizes) (marked (fence-marks R m (b .0)))) (read-on (higher (R .settled .0) (n .0))) (Fencing (fence-marks R m (b .0)))
       (λ ph. WorkOk x (in-phase R (higher (R .settled .0) (n .0)) ph))
@@ -209,12 +226,13 @@ module _ (x : World) (R : Recoverer) (w : WorkOk x R) where
   absent-work m b ph g =
       cond-both (leb (blocking (R .layout .sizes)) (hits R (entry-marks R m (b .0)))) Ended (Reading (entry-marks R m (b .0))) (λ p. WorkOk x (in-phase R (R .settled .0) p))
       (λ q. work-in (R .settled .0) Ended (w .below)
-        (inr (let u = leb-true (blocking (R .layout .sizes)) (hits R (entry-marks R m (b .0))) q in
-          let v = marks-count (barred x (R .ledger .0) (R .settled .0)) (R .layout) (R .settled .0) (entry-marks R m (b .0)) marks in omega arith)))
+      (inr (let u = leb-true (blocking (R .layout .sizes)) (hits R (entry-marks R m (b .0))) q in
+      let v = marks-count (barred x (R .ledger .0) (R .settled .0)) (R .layout) (R .settled .0) (entry-marks R m (b .0)) marks in omega arith)))
       (λ _. work-in (R .settled .0) (Reading (entry-marks R m (b .0))) (w .below) marks)
     where
       old : PhaseOk x R (R .ledger .0) (R .layout) (Reading m)
       old = subst (PhaseOk x R (R .ledger .0) (R .layout)) ph (w .phase)
+
       marks : (q : ℕ) → marked (entry-marks R m (b .0)) q ≡ true → barred x (R .ledger .0) (R .settled .0) (bookie-at (R .layout) (R .settled .0) q) ≡ true
       marks =
           mark-is (λ v. barred x (R .ledger .0) (R .settled .0) v ≡ true) (fragment-of (R .layout) (R .settled .0) .bookies)
@@ -225,24 +243,27 @@ module _ (x : World) (R : Recoverer) (w : WorkOk x R) where
       cond-both (leb (R .layout .sizes .ack) (hits R (entry-marks R m (b .0)))) (in-phase R (next (R .settled .0)) (read-on (next (R .settled .0))))
       (in-phase R (R .settled .0) (Writing (entry-marks R m (b .0)))) (WorkOk x)
       (λ q. work-on (next (R .settled .0))
-        (cond-both (ltb (R .settled .0) max-entries) (R .settled .0 + 1) (R .settled .0) (λ v. Copied x (R .ledger .0) v (R .layout))
-          (λ _ e j. one e j (leb-true (R .layout .sizes .ack) (hits R (entry-marks R m (b .0))) q)) (λ _. w .below)))
+      (cond-both (ltb (R .settled .0) max-entries) (R .settled .0 + 1) (R .settled .0) (λ v. Copied x (R .ledger .0) v (R .layout))
+      (λ _ e j. one e j (leb-true (R .layout .sizes .ack) (hits R (entry-marks R m (b .0))) q)) (λ _. w .below)))
       (λ _. work-in (R .settled .0) (Writing (entry-marks R m (b .0))) (w .below) (old .0, marks))
     where
       old : PhaseOk x R (R .ledger .0) (R .layout) (Writing m)
       old = subst (PhaseOk x R (R .ledger .0) (R .layout)) ph (w .phase)
+
       marks : (q : ℕ) → marked (entry-marks R m (b .0)) q ≡ true → held-at x (R .ledger .0) (R .settled .0) (bookie-at (R .layout) (R .settled .0) q) ≡ true
       marks =
           mark-is (λ v. held-at x (R .ledger .0) (R .settled .0) v ≡ true) (fragment-of (R .layout) (R .settled .0) .bookies)
           (write-set (R .layout .sizes) (R .settled .0)) (b .0) m (old .1) g
+
       one : (e : ℕ) → e < R .settled .0 + 1 → R .layout .sizes .ack ≤ hits R (entry-marks R m (b .0))
-        → R .layout .sizes .ack ≤ tally (held-at x (R .ledger .0) e) (bookies-of (R .layout) e)
+          → R .layout .sizes .ack ≤ tally (held-at x (R .ledger .0) e) (bookies-of (R .layout) e)
       one e j z =
           let c = marks-count (held-at x (R .ledger .0) (R .settled .0)) (R .layout) (R .settled .0) (entry-marks R m (b .0)) marks in
           let here : R .layout .sizes .ack ≤ tally (held-at x (R .ledger .0) (R .settled .0)) (bookies-of (R .layout) (R .settled .0)) = omega arith in
-          elim (cases-eq e (R .settled .0))
-          [ inl s ↦ subst (λ (n : ℕ). R .layout .sizes .ack ≤ tally (held-at x (R .ledger .0) n) (bookies-of (R .layout) n)) (sym s) here
-          | inr s ↦ w .below e (omega arith) ]
+          elim (cases-eq e (R .settled .0)) [
+            | inl s ↦ subst (λ (n : ℕ). R .layout .sizes .ack ≤ tally (held-at x (R .ledger .0) n) (bookies-of (R .layout) n)) (sym s) here
+            | inr s ↦ w .below e (omega arith)
+          ]
 
 -- what a reply says of its ledger and entry it says of those at hand
 of-hand : (R : Recoverer) (l e : ℕ) (P : ℕ → ℕ → Type 0) → P l e → at-hand R l e ≡ true → P (R .ledger .0) (R .settled .0)
@@ -313,11 +334,13 @@ pub to-recoverer-keeps : {x₀ : World} (ns : List Note) (c : Cluster) (r : Reco
 to-recoverer-keeps ns c r m i g =
     sent-inv ns (with-recoverer c (r .0) R′) (heard-sends R r m) (recoverer-inv ns c (r .0) R′ i ok)
     (cond-both (eqb (phase-number (R .phase)) (phase-number (R′ .phase))) [] (asks R′ r) (All (MessageOk (world ns c))) (λ _. tt)
-      (λ _. asks-ok (world ns c) R′ r (R′ .phase) (phase-of (world ns c) R′ ok (R′ .phase) refl)))
+    (λ _. asks-ok (world ns c) R′ r (R′ .phase) (phase-of (world ns c) R′ ok (R′ .phase) refl)))
   where
     R : Recoverer
     R = recoverer-of c (r .0)
+
     R′ : Recoverer
     R′ = heard R m
+
     ok : RecovererOk (world ns c) R′
     ok = heard-ok i R (i .recoverers (r .0)) m g

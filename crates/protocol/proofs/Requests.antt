@@ -43,7 +43,7 @@ find-more [] h l e k = absurd (false≢true k)
 find-more (g ∷ hs) h l e k = one (find-more hs h l e) (is-copy g l e) k
   where
     one : (is-there (find hs l e) ≡ true → is-there (find (hs ++ (h ∷ [])) l e) ≡ true) → (v : Bool)
-      → is-there (cond v (Some g) (find hs l e)) ≡ true → is-there (cond v (Some g) (find (hs ++ (h ∷ [])) l e)) ≡ true
+        → is-there (cond v (Some g) (find hs l e)) ≡ true → is-there (cond v (Some g) (find (hs ++ (h ∷ [])) l e)) ≡ true
     one rest true k = refl
     one rest false k = rest k
 
@@ -55,7 +55,7 @@ find-new [] h = rw (same-number (h .ledger .0), same-number (h .entry .0))
 find-new (g ∷ hs) h = one (find-new hs h) (is-copy g (h .ledger .0) (h .entry .0))
   where
     one : is-there (find (hs ++ (h ∷ [])) (h .ledger .0) (h .entry .0)) ≡ true → (v : Bool)
-      → is-there (cond v (Some g) (find (hs ++ (h ∷ [])) (h .ledger .0) (h .entry .0))) ≡ true
+        → is-there (cond v (Some g) (find (hs ++ (h ∷ [])) (h .ledger .0) (h .entry .0))) ≡ true
     one rest true = refl
     one rest false = rest
 
@@ -65,7 +65,7 @@ highest-le x [] l h = omega arith
 highest-le x (g ∷ hs) l h =
     cond-both (eqb (g .ledger .0) l) (max (g .lac .0) (highest-lac hs l)) (highest-lac hs l) (λ n. n ≤ x .writer l .lac)
     (λ q. let p : g .lac .0 ≤ x .writer l .lac = subst (λ (k : ℕ). g .lac .0 ≤ x .writer k .lac) (eqb-true (g .ledger .0) l q) (h .0 .1) in
-      let r = highest-le x hs l (h .1) in omega arith)
+    let r = highest-le x hs l (h .1) in omega arith)
     (λ _. highest-le x hs l (h .1))
 
 abbrev pub FoundOk : World → ℕ → ℕ → Option Held → Type 0
@@ -78,8 +78,8 @@ find-ok x [] l e h = tt
 find-ok x (g ∷ hs) l e h =
     cond-both (is-copy g l e) (Some g) (find hs l e) (FoundOk x l e)
     (λ q. let p = and-parts (eqb (g .ledger .0) l) (eqb (g .entry .0) e) q in
-      subst (λ (k : ℕ). Sent x k e (g .lac .0) (g .body)) (eqb-true (g .ledger .0) l (p .0))
-      (subst (λ (k : ℕ). Sent x (g .ledger .0) k (g .lac .0) (g .body)) (eqb-true (g .entry .0) e (p .1)) (h .0)))
+    subst (λ (k : ℕ). Sent x k e (g .lac .0) (g .body)) (eqb-true (g .ledger .0) l (p .0))
+    (subst (λ (k : ℕ). Sent x (g .ledger .0) k (g .lac .0) (g .body)) (eqb-true (g .entry .0) e (p .1)) (h .0)))
     (λ _. find-ok x hs l e (h .1))
 
 -- add ----------------------------------------------------------------------------------------------------------------
@@ -123,10 +123,11 @@ module _ (B : Bookie) (l : LedgerId) where
   fence-grows : Grows B (fence-after B l)
   fence-grows =
       by-answer (fence-answer B l) (fencing B l) B (Grows B)
-      (λ _ _. record
-        { held = λ k e h. h
-        ; fenced = λ k. number-rel (λ (a b : Bool). a ≡ true → b ≡ true) (λ a h. h) (B .fences) (l .0) k true false (λ _. refl)
-        ; flags = length-set (B .fences) (row (B .fences) (l .0)) true })
+      (λ _ _. record {
+        held = λ k e h. h;
+        fenced = λ k. number-rel (λ (a b : Bool). a ≡ true → b ≡ true) (λ a h. h) (B .fences) (l .0) k true false (λ _. refl);
+        flags = length-set (B .fences) (row (B .fences) (l .0)) true;
+      })
       (λ _ _. grows-same B)
 
   fence-entries : fence-after B l .entries ≡ B .entries
@@ -167,12 +168,18 @@ fence-keeps ns c r l b i = sent-inv ns c′ (fence-reply r l b (fence-answer B l
   where
     B : Bookie
     B = bookie-of c (b .0)
+
     c′ : Cluster
     c′ = with-bookie c (b .0) (fence-after B l)
+
     true-reply : (a : Result Lac BookieFault) → fence-answer B l ≡ a → All (MessageOk (world ns c′)) (fence-reply r l b a)
-    true-reply (Ok n) z =
-        ((fenced-there ns c (b .0) l n i z
-        , subst (λ (v : Lac). v .0 ≤ writer-of c (l .0) .lac) (fence-passed B l n z .2) (highest-le (world ns c) (B .entries) (l .0) (i .copies (b .0)))), tt)
+    true-reply (Ok n) z = (
+      (
+        fenced-there ns c (b .0) l n i z,
+        subst (λ (v : Lac). v .0 ≤ writer-of c (l .0) .lac) (fence-passed B l n z .2) (highest-le (world ns c) (B .entries) (l .0) (i .copies (b .0))),
+      ),
+      tt,
+    )
     true-reply (Err f) z = unless-ok (world ns c′) f (Refused r l b f) tt
 
 pub read-keeps : {x₀ : World} (ns : List Note) (c : Cluster) (r : RecovererId) (l : LedgerId) (b : BookieId) (e : EntryId) → InvAt x₀ ns c
@@ -183,8 +190,10 @@ read-keeps ns c r l b e i =
   where
     B : Bookie
     B = bookie-of c (b .0)
+
     c′ : Cluster
     c′ = with-bookie c (b .0) (fence-after B l)
+
     -- an answered read: the bookie answered a fence, and the entry was looked for among its copies
     read-passed : (o : Option Held) → recovery-read-answer B l e ≡ Ok o → ((n : Lac) × (fence-answer B l ≡ Ok n)) × (find (B .entries) (l .0) (e .0) ≡ o)
     read-passed o z =
@@ -193,16 +202,20 @@ read-keeps ns c r l b e i =
         let v = passed (fence-after B l .up) refused.Stopped _ o (q .1) in
         let same : find (fence-after B l .entries) (l .0) (e .0) ≡ o = let k = v .1 in cc in
         (p .0, subst (λ (hs : List Held). find hs (l .0) (e .0) ≡ o) (fence-entries B l) same)
+
     -- an absent entry was never acknowledged, since what is acknowledged is held
     never : find (B .entries) (l .0) (e .0) ≡ None → (v : Bool) → acked-by ns (l .0) (e .0) (b .0) ≡ v → not v ≡ true
     never q true k = absurd (false≢true (sym (ap is-there q) ∙ i .acked (l .0) (e .0) (b .0) k))
     never q false k = refl
+
     true-reply : (a : Result (Option Held) BookieFault) → recovery-read-answer B l e ≡ a → FoundOk (world ns c) (l .0) (e .0) (find (B .entries) (l .0) (e .0))
-      → All (MessageOk (world ns c′)) (read-reply r l b e a)
+        → All (MessageOk (world ns c′)) (read-reply r l b e a)
     true-reply (Ok None) z f =
-        let p = read-passed None z in
-        (and-from (is-fenced (bookie-of c′ (b .0)) (l .0)) (not (acked-by ns (l .0) (e .0) (b .0)))
-          (fenced-there ns c (b .0) l (p .0 .0) i (p .0 .1)) (never (p .1) (acked-by ns (l .0) (e .0) (b .0)) refl), tt)
+        let p = read-passed None z in (
+          and-from (is-fenced (bookie-of c′ (b .0)) (l .0)) (not (acked-by ns (l .0) (e .0) (b .0)))
+              (fenced-there ns c (b .0) l (p .0 .0) i (p .0 .1)) (never (p .1) (acked-by ns (l .0) (e .0) (b .0)) refl),
+          tt,
+        )
     true-reply (Ok (Some h)) z f = (subst (FoundOk (world ns c) (l .0) (e .0)) (read-passed (Some h) z .1) f, tt)
     true-reply (Err f) z _ = unless-ok (world ns c′) f (Refused r l b f) tt
 
@@ -215,10 +228,13 @@ recovery-add-keeps ns c r l b e n body i s =
   where
     B : Bookie
     B = bookie-of c (b .0)
+
     C : Bookie
     C = add-after B l e n body true
+
     c′ : Cluster
     c′ = with-bookie c (b .0) C
+
     true-reply : (a : Result (Unit {0}) BookieFault) → add-answer B l e n body true ≡ a → All (MessageOk (world ns c′)) (recovery-add-reply r l b e a)
     true-reply (Ok u) z = (rw (put-there c (b .0) C (add-passed B l e n body true u z .0)) (add-holds B l e n body true u z), tt)
     true-reply (Err f) z = unless-ok (world ns c′) f (Refused r l b f) tt
@@ -236,47 +252,57 @@ add-keeps {x₀} ns c l b e n body i s = by (add-answer B l e n body false) refl
   where
     B : Bookie
     B = bookie-of c (b .0)
+
     C : Bookie
     C = add-after B l e n body false
+
     c′ : Cluster
     c′ = with-bookie c (b .0) C
+
     new : Note
     new = ack-note (l .0) (e .0) (b .0)
+
     grown : (k : ℕ) → Grows (bookie-of c k) (bookie-of c′ k)
     grown k = set-rel Grows grows-same (c .bookies) (b .0) k C no-bookie (add-grows B l e n body false)
+
     copies : All (CopyOk (world ns c)) (C .entries)
     copies = add-copies B l e n body false (world ns c) (i .copies (b .0)) s
+
     acknowledging : (u : Unit {0}) → add-answer B l e n body false ≡ Ok u → InvAt x₀ (new ∷ ns) (send c′ (Added l b e ∷ []))
     acknowledging u z =
         sent-inv (new ∷ ns) c′ (Added l b e ∷ [])
         (bookies-inv (world ns c) (bookie-of c′) (acked-by (new ∷ ns)) later i
-          (λ k. at-set (λ D. All (CopyOk (world ns c)) (D .entries)) (c .bookies) (b .0) k C no-bookie (λ _. copies) (i .copies k))
-          (λ l′ e′ k h. has l′ e′ k (or-cases (is-ack new l′ e′ k) (acked-by ns l′ e′ k) h)))
+        (λ k. at-set (λ D. All (CopyOk (world ns c)) (D .entries)) (c .bookies) (b .0) k C no-bookie (λ _. copies) (i .copies k))
+        (λ l′ e′ k h. has l′ e′ k (or-cases (is-ack new l′ e′ k) (acked-by ns l′ e′ k) h)))
         (or-left (is-ack new (l .0) (e .0) (b .0)) (acked-by ns (l .0) (e .0) (b .0)) (rw (same-number (l .0), same-number (e .0), same-number (b .0))), tt)
       where
         unfenced : is-fenced B (l .0) ≡ false
         unfenced =
             elim (or-cases (not (is-fenced B (l .0))) false (add-passed B l e n body false u z .1))
             [ inl k ↦ not-true (is-fenced B (l .0)) k | inr k ↦ absurd (false≢true k) ]
+
         -- an acknowledgement of a fenced bookie is an old one
         old : (l′ e′ k : ℕ) → is-fenced (bookie-of c k) l′ ≡ true → ((is-ack new l′ e′ k ≡ true) ⊎ (acked-by ns l′ e′ k ≡ true)) → acked-by ns l′ e′ k ≡ true
         old l′ e′ k f (inl a) =
             let p = ack-parts (l .0) (e .0) (b .0) l′ e′ k a in
             absurd (both-ways (is-fenced B (l .0)) unfenced
-              (subst (λ (v : ℕ). is-fenced (bookie-of c v) (l .0) ≡ true) (sym (p .2)) (subst (λ (v : ℕ). is-fenced (bookie-of c k) v ≡ true) (sym (p .0)) f)))
+            (subst (λ (v : ℕ). is-fenced (bookie-of c v) (l .0) ≡ true) (sym (p .2)) (subst (λ (v : ℕ). is-fenced (bookie-of c k) v ≡ true) (sym (p .0)) f)))
         old l′ e′ k f (inr a) = a
+
         later : Later (world ns c) (world (new ∷ ns) c′)
         later =
             bookies-later (world ns c) (bookie-of c′) (acked-by (new ∷ ns)) grown
             (λ l′ e′ k h. or-right (is-ack new l′ e′ k) (acked-by ns l′ e′ k) h)
             (λ l′ e′ k f h. old l′ e′ k f (or-cases (is-ack new l′ e′ k) (acked-by ns l′ e′ k) h))
+
         has : (l′ e′ k : ℕ) → ((is-ack new l′ e′ k ≡ true) ⊎ (acked-by ns l′ e′ k ≡ true)) → holds (bookie-of c′ k) l′ e′ ≡ true
         has l′ e′ k (inl a) =
             let p = ack-parts (l .0) (e .0) (b .0) l′ e′ k a in
             rw (← p .0, ← p .1, ← p .2, put-there c (b .0) C (add-passed B l e n body false u z .0)) (add-holds B l e n body false u z)
         has l′ e′ k (inr a) = grown k .held l′ e′ (i .acked l′ e′ k a)
+
     by : (a : Result (Unit {0}) BookieFault) → add-answer B l e n body false ≡ a
-      → InvAt x₀ (delivery-note (Add l b e n body) (served a) ∷ ns) (send c′ (add-reply l b e a))
+        → InvAt x₀ (delivery-note (Add l b e n body) (served a) ∷ ns) (send c′ (add-reply l b e a))
     by (Ok u) z = acknowledging u z
     by (Err f) z =
         sent-inv ns c′ (add-reply l b e (Err f)) (bookie-inv ns c (b .0) C i (add-grows B l e n body false) copies)

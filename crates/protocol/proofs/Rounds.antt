@@ -92,7 +92,7 @@ module _ (h : History) (r : RecovererId) (R : Recoverer) where
   past n k = cond-both (leb max-entries n) Ended (Reading no-marks) (RoundIn h r (R .ledger) (R .layout)) (λ _. k) (λ _. k)
 
   fencing-round : (m : List Bool) (a : Message) → R .phase ≡ Fencing m → ((l : LedgerId) (b : BookieId) (n : Lac) (q : RecovererId) → a ≡ Fenced q l b n → Answered h r l b)
-    → RoundOk h r R → RoundOk h r (while-fencing R m a)
+      → RoundOk h r R → RoundOk h r (while-fencing R m a)
   fencing-round m (Fence q l b) ph f k = k
   fencing-round m (RecoveryRead q l b e) ph f k = k
   fencing-round m (Add l b e n body) ph f k = k
@@ -102,11 +102,12 @@ module _ (h : History) (r : RecovererId) (R : Recoverer) where
   fencing-round m (Fenced q l b n) ph f k =
       cond-both (eqb (l .0) (R .ledger .0)) (heard-fenced R m b n) R (RoundOk h r)
       (λ same. cond-both (covers (R .layout .sizes) (marked marks)) (read-on (higher (R .settled .0) (n .0))) (Fencing marks) (RoundIn h r (R .ledger) (R .layout))
-        (λ cov. past (higher (R .settled .0) (n .0)) (marked marks, cov, all same)) (λ _. all same))
+      (λ cov. past (higher (R .settled .0) (n .0)) (marked marks, cov, all same)) (λ _. all same))
       (λ _. k)
     where
       marks : List Bool
       marks = fence-marks R m (b .0)
+
       all : eqb (l .0) (R .ledger .0) ≡ true → (p : ℕ) → marked marks p ≡ true → PositionAnswered h r (R .ledger) (R .layout) p
       all same =
           mark-is (λ v. Answered h r (R .ledger) (bookie-id v)) (last-fragment (R .layout) .bookies) (ensemble (R .layout .sizes)) (b .0) m
@@ -128,7 +129,7 @@ module _ (h : History) (r : RecovererId) (R : Recoverer) where
   reading-round m (Absent q l b e) ph k =
       cond-both (at-hand R (l .0) (e .0)) (heard-absent R m b) R (RoundOk h r)
       (λ _. cond-both (leb (blocking (R .layout .sizes)) (hits R (entry-marks R m (b .0)))) Ended (Reading (entry-marks R m (b .0))) (RoundIn h r (R .ledger) (R .layout))
-        (λ _. subst (RoundIn h r (R .ledger) (R .layout)) ph k) (λ _. subst (RoundIn h r (R .ledger) (R .layout)) ph k))
+      (λ _. subst (RoundIn h r (R .ledger) (R .layout)) ph k) (λ _. subst (RoundIn h r (R .ledger) (R .layout)) ph k))
       (λ _. k)
   reading-round m (Found q l b e n body) ph k =
       cond-both (at-hand R (l .0) (e .0)) (write-back R n body) R (RoundOk h r) (λ _. subst (RoundIn h r (R .ledger) (R .layout)) ph k) (λ _. k)
@@ -148,8 +149,8 @@ module _ (h : History) (r : RecovererId) (R : Recoverer) where
   writing-round m (RecoveryAdded q l b e) ph k =
       cond-both (at-hand R (l .0) (e .0)) (heard-written R m b) R (RoundOk h r)
       (λ _. cond-both (leb (R .layout .sizes .ack) (hits R (entry-marks R m (b .0)))) (in-phase R (next (R .settled .0)) (read-on (next (R .settled .0))))
-        (in-phase R (R .settled .0) (Writing (entry-marks R m (b .0)))) (RoundOk h r)
-        (λ _. past (next (R .settled .0)) (subst (RoundIn h r (R .ledger) (R .layout)) ph k)) (λ _. subst (RoundIn h r (R .ledger) (R .layout)) ph k))
+      (in-phase R (R .settled .0) (Writing (entry-marks R m (b .0)))) (RoundOk h r)
+      (λ _. past (next (R .settled .0)) (subst (RoundIn h r (R .ledger) (R .layout)) ph k)) (λ _. subst (RoundIn h r (R .ledger) (R .layout)) ph k))
       (λ _. k)
   writing-round m (Refused q l b g) ph k = k
 
@@ -198,7 +199,7 @@ change-quiet c l p b =
     ask-cases c (Quiet c) (is-made (writer-of c (l .0) .state)) (fault.Missing 1) _ refl
     (λ _. ask-cases c (Quiet c) (ltb (b .0) (length (c .bookies))) (fault.Missing 3) _ refl
     (λ _. client-cases c (Quiet c) (change-answer (writer-of c (l .0)) (c .store) l p b) _ (λ f. refl)
-      (changed-quiet c l p b (change-store (writer-of c (l .0)) (c .store) l p b))))
+    (changed-quiet c l p b (change-store (writer-of c (l .0)) (c .store) l p b))))
 
 closed-quiet : (c : Cluster) (l : LedgerId) (s : Store) (o : Option Lac) → Quiet c (closed c l s o)
 closed-quiet c l s None = refl
@@ -257,19 +258,19 @@ module _ (h : History) (c : Cluster) (r : RecovererId) (k : RoundOk h r (recover
       all (λ o. o ≡ recover c q l → RoundOk (event c (Recover q l) ∷ h) r (recoverer-of (o .next) (r .0)))
       (λ f is. refused-round q l f (ap (λ (o : Outcome). o .answer) (sym is)))
       (λ c′ x same ph _. subst (λ (xs : List Recoverer). RoundOk (event c (Recover q l) ∷ h) r (numbered (renumbered xs (q .0) x) (r .0) no-recoverer)) (sym same)
-        (at-number-blank (RoundOk (event c (Recover q l) ∷ h) r) (c .recoverers) (q .0) (r .0) x no-recoverer tt
-          (λ _. subst (RoundIn (event c (Recover q l) ∷ h) r (x .ledger) (x .layout)) (sym ph) (λ p z. absurd (none-marked p z)))
-          (λ ne. kept-round (Recover q l) (λ (l′, did, _). let is : q ≡ r = cc in ne (ap (λ (v : RecovererId). v .0) (sym is))))))
+      (at-number-blank (RoundOk (event c (Recover q l) ∷ h) r) (c .recoverers) (q .0) (r .0) x no-recoverer tt
+      (λ _. subst (RoundIn (event c (Recover q l) ∷ h) r (x .ledger) (x .layout)) (sym ph) (λ p z. absurd (none-marked p z)))
+      (λ ne. kept-round (Recover q l) (λ (l′, did, _). let is : q ≡ r = cc in ne (ap (λ (v : RecovererId). v .0) (sym is))))))
       refl
     where
       all : (P : Outcome → Type 0) → ((f : StepFault) → P (refuse c f))
-        → ((c′ : Cluster) (x : Recoverer) → c′ .recoverers ≡ c .recoverers → x .phase ≡ Fencing no-marks → P (begun c′ q x)) → P (recover c q l)
+          → ((c′ : Cluster) (x : Recoverer) → c′ .recoverers ≡ c .recoverers → x .phase ≡ Fencing no-marks → P (begun c′ q x)) → P (recover c q l)
       all P bad good =
           ask-cases c P (is-recoverer (q .0)) (fault.Missing 1) _ (bad (fault.Missing 1))
           (λ _. ask-cases c P (exists (c .store) (l .0)) (fault.Missing 2) _ (bad (fault.Missing 2))
           (λ _. ask-cases c P (not (at-work (recoverer-of c (q .0) .phase))) fault.Taken _ (bad fault.Taken)
           (λ _. client-cases c P (recover-answer (c .store) l) _ bad
-            (λ v. good (with-store c (recover-store (c .store) l)) (new-recoverer l v (ledger-of c (l .0) .layout)) refl refl))))
+          (λ v. good (with-store c (recover-store (c .store) l)) (new-recoverer l v (ledger-of c (l .0) .layout)) refl refl))))
 
   finish-round : (q : RecovererId) → RoundOk (event c (Finish q) ∷ h) r (recoverer-of (finish c q .next) (r .0))
   finish-round q =
@@ -279,6 +280,7 @@ module _ (h : History) (c : Cluster) (r : RecovererId) (k : RoundOk h r (recover
     where
       P : Outcome → Type 0
       P o = RoundOk (event c (Finish q) ∷ h) r (recoverer-of (o .next) (r .0))
+
       still : RoundOk (event c (Finish q) ∷ h) r (recoverer-of c (r .0))
       still = kept-round (Finish q) (not-started (Finish q) refl)
 
@@ -288,20 +290,25 @@ module _ (h : History) (c : Cluster) (r : RecovererId) (k : RoundOk h r (recover
     where
       k′ : History
       k′ = event c (Deliver p) ∷ h
+
       still : RoundOk k′ r (recoverer-of c (r .0))
       still = kept-round (Deliver p) (not-started (Deliver p) refl)
+
       c′ : Cluster
       c′ = with-queue c (without (c .queue) (p .0))
+
       replied-to : (q : RecovererId) (m : Message) → ((l : LedgerId) (b : BookieId) (n : Lac) (q′ : RecovererId) → m ≡ Fenced q′ l b n → Answered k′ q l b)
-        → RoundOk k′ r (recoverer-of (to-recoverer c′ q m .next) (r .0))
+          → RoundOk k′ r (recoverer-of (to-recoverer c′ q m .next) (r .0))
       replied-to q m f =
           at-number (RoundOk k′ r) (c .recoverers) (q .0) (r .0) (heard (recoverer-of c (q .0)) m) no-recoverer
           (λ same. subst (λ (v : ℕ). RoundOk k′ r (heard (recoverer-of c v) m)) same
-            (heard-round k′ r (recoverer-of c (r .0)) m (λ l b n q′ is. subst (λ (v : ℕ). Answered k′ (recoverer-id v) l b) (sym same) (f l b n q′ is)) still))
+          (heard-round k′ r (recoverer-of c (r .0)) m (λ l b n q′ is. subst (λ (v : ℕ). Answered k′ (recoverer-id v) l b) (sym same) (f l b n q′ is)) still))
           still
+
       -- only a fence answer is one
       other : (q : RecovererId) (m : Message) → is-fence-answer m ≡ false → RoundOk k′ r (recoverer-of (to-recoverer c′ q m .next) (r .0))
       other q m no-fence = replied-to q m (λ l b n q′ is. absurd (true≢false (sym (ap is-fence-answer is) ∙ no-fence)))
+
       arrived : (m : Message) → message-at c p ≡ m → RoundOk k′ r (recoverer-of (act c′ m .next) (r .0))
       arrived (Fence q l b) is = still
       arrived (RecoveryRead q l b e) is = still
@@ -359,37 +366,45 @@ late-finish ns c r i ended ne = (closed-now, rw (work, ended, in-range-now, ther
   where
     R : Recoverer
     R = recoverer-of c (r .0)
+
     work : at-work (recoverer-of c (r .0) .phase) ≡ true
     work = ap at-work (ended-is (recoverer-of c (r .0) .phase) ended)
+
     closed-now : ledger-of c (recoverer-of c (r .0) .ledger .0) .state ≡ Closed
     closed-now = under-other (ledger-of c (R .ledger .0)) (R .version .0) (i .recoverers (r .0) work .under) ne
+
     there : exists (c .store) (recoverer-of c (r .0) .ledger .0) ≡ true
     there = closed-there (kept (c .store) (R .ledger .0)) closed-now
+
     in-range-now : is-ledger (recoverer-of c (r .0) .ledger .0) ≡ true
     in-range-now = row-ledger (c .store .ledgers) (R .ledger .0) (i .ledgers) (has-row is-there (c .store .ledgers) (R .ledger .0) None refl there)
+
     other : eqb (ledger-of c (recoverer-of c (r .0) .ledger .0) .version .0) (recoverer-of c (r .0) .version .0) ≡ false
     other = ne-eqb (ledger-of c (R .ledger .0) .version .0) (R .version .0) ne
 
 -- the law of rounds --------------------------------------------------------------------------------------------------
 pub rounds : RoundsLaw
 rounds h c g =
-    record
-      { fenced = λ r q.
+    record {
+      fenced = λ r q.
           let p = past-covered h r (recoverer-of c (r .0) .ledger) (recoverer-of c (r .0) .layout) (recoverer-of c (r .0) .phase) q (run-round (g .0) (g .1) (g .2) (g .3) r) in
-          (p .0, refl, p .1 .0, p .1 .1, p .1 .2)
-      ; read = λ r q. read r (i .recoverers (r .0) q)
-      ; ends = λ h₁ c₁ l g₁ on z.
+          (p .0, refl, p .1 .0, p .1 .1, p .1 .2);
+      read = λ r q. read r (i .recoverers (r .0) q);
+      ends = λ h₁ c₁ l g₁ on z.
           let t = run-later on (reached-inv g₁) in
-          elim (t .frozen (l .0) (inl z) .2 (ledger-of c₁ (l .0) .version .0) (inl (z, refl))) [ inl k ↦ inr (k .0, sym (k .1)) | inr k ↦ inl (k .0) ]
-      ; stays = λ h₁ c₁ l g₁ on z. run-later on (reached-inv g₁) .closed (l .0) z
-      ; late = λ r. late-finish (notes h) c r i }
+          elim (t .frozen (l .0) (inl z) .2 (ledger-of c₁ (l .0) .version .0) (inl (z, refl))) [ inl k ↦ inr (k .0, sym (k .1)) | inr k ↦ inl (k .0) ];
+      stays = λ h₁ c₁ l g₁ on z. run-later on (reached-inv g₁) .closed (l .0) z;
+      late = λ r. late-finish (notes h) c r i;
+    }
   where
     i : InvAt (world [] (empty (g .0) (g .1) (g .2))) (notes h) c
     i = reached-inv g
+
     read : (r : RecovererId) → WorkOk (world (notes h) c) (recoverer-of c (r .0))
-      → IsClosed c (recoverer-of c (r .0) .ledger) ⊎ (recoverer-of c (r .0) .layout ≡ ledger-of c (recoverer-of c (r .0) .ledger .0) .layout)
+        → IsClosed c (recoverer-of c (r .0) .ledger) ⊎ (recoverer-of c (r .0) .layout ≡ ledger-of c (recoverer-of c (r .0) .ledger .0) .layout)
     read r w =
-        elim (w .under)
-        [ inl z ↦ inr (w .same ∙ sym (subst (StateOk (world (notes h) c) (recoverer-of c (r .0) .ledger .0) (writer-of c (recoverer-of c (r .0) .ledger .0)) (ledger-of c (recoverer-of c (r .0) .ledger .0))) (z .0)
-            (i .metadata (recoverer-of c (r .0) .ledger .0) .state) .2))
-        | inr z ↦ inl (z .0) ]
+        elim (w .under) [
+          | inl z ↦ inr (w .same ∙ sym (subst (StateOk (world (notes h) c) (recoverer-of c (r .0) .ledger .0) (writer-of c (recoverer-of c (r .0) .ledger .0)) (ledger-of c (recoverer-of c (r .0) .ledger .0))) (z .0)
+              (i .metadata (recoverer-of c (r .0) .ledger .0) .state) .2))
+          | inr z ↦ inl (z .0)
+        ]

@@ -71,8 +71,8 @@ deliver-keeps : {x₀ : World} (ns : List Note) (c : Cluster) (m : MessagePlace)
 deliver-keeps {x₀} ns c m i =
     ask-cases c (Keeps x₀ ns c (Deliver m)) (waits c m) (fault.Missing 1) _ (refused-note ns c (message-at c m) (fault.Missing 1) i)
     (λ q. act-keeps ns (with-queue c (without (c .queue) (m .0))) (message-at c m)
-      (with-messages (taken-off (c .queue .waiting) (m .0)) i (all-taken-off (MessageOk (world ns c)) (c .queue .waiting) (m .0) (i .messages)))
-      (waiting-ok ns c m i q))
+    (with-messages (taken-off (c .queue .waiting) (m .0)) i (all-taken-off (MessageOk (world ns c)) (c .queue .waiting) (m .0) (i .messages)))
+    (waiting-ok ns c m i q))
 
 pub step-keeps : {x₀ : World} (ns : List Note) (c : Cluster) (s : Step) → InvAt x₀ ns c → Keeps x₀ ns c s (step c s)
 step-keeps ns c (Create l e w k bs) i = create-keeps ns c l e w k bs i
@@ -97,18 +97,29 @@ of-new P (s ∷ ss) (suc b) new none = of-new P ss b new none
 
 pub empty-inv : (spaces : List ℕ) (changes room : ℕ) → InvAt (world [] (empty spaces changes room)) [] (empty spaces changes room)
 empty-inv spaces changes room =
-    record
-      { since = later-refl (world [] c); acked = λ l e b h. absurd (false≢true h)
-      ; copies = λ b. of-new (λ B. All (CopyOk (world [] c)) (B .entries)) spaces b (λ _. tt) tt; messages = tt
-      ; writing = λ l. all-blank (WriterOk [] (acked-by [] l)) max-ledgers l no-writer
-          (record
-            { upto = omega arith; small = omega arith; firm = λ e k. let z : ⊥ = omega arith in absurd z; pending = λ _ _. refl; first = omega arith
-            ; blank = λ _. refl; layout = no-layout-ok })
-      ; metadata = λ l. all-blank (λ w. LedgerOk (world [] c) l w (ledger-of c l)) max-ledgers l no-writer
+    record {
+      since = later-refl (world [] c);
+      acked = λ l e b h. absurd (false≢true h);
+      copies = λ b. of-new (λ B. All (CopyOk (world [] c)) (B .entries)) spaces b (λ _. tt) tt;
+      messages = tt;
+      writing = λ l. all-blank (WriterOk [] (acked-by [] l)) max-ledgers l no-writer
+          (record {
+            upto = omega arith;
+            small = omega arith;
+            firm = λ e k. let z : ⊥ = omega arith in absurd z;
+            pending = λ _ _. refl;
+            first = omega arith;
+            blank = λ _. refl;
+            layout = no-layout-ok;
+          });
+      metadata = λ l. all-blank (λ w. LedgerOk (world [] c) l w (ledger-of c l)) max-ledgers l no-writer
           (all-blank (λ o. LedgerOk (world [] c) l no-writer (known o)) max-ledgers l None
-            (record { free = λ _. (refl, refl); state = (refl, refl, refl); layout = no-layout-ok }))
-      ; recoverers = λ r. all-blank (RecovererOk (world [] c)) max-recoverers r no-recoverer (λ h. absurd (false≢true h))
-      ; flags = λ b. of-new (λ B. length (B .fences) ≡ max-ledgers) spaces b (λ _. refl) refl; writers = refl; ledgers = refl }
+          (record { free = λ _. (refl, refl); state = (refl, refl, refl); layout = no-layout-ok }));
+      recoverers = λ r. all-blank (RecovererOk (world [] c)) max-recoverers r no-recoverer (λ h. absurd (false≢true h));
+      flags = λ b. of-new (λ B. length (B .fences) ≡ max-ledgers) spaces b (λ _. refl) refl;
+      writers = refl;
+      ledgers = refl;
+    }
   where
     c : Cluster
     c = empty spaces changes room
@@ -121,9 +132,18 @@ run-keeps (more {h = h} {c = c} s r) i = step-keeps (notes h) c s (run-keeps r i
 -- the invariant holds with its own world for the start
 pub rebase : {x₀ x : World} {rs : ℕ → Recoverer} {ms : List Message} → Inv x₀ x rs ms → Inv x x rs ms
 rebase {x₀} {x} i =
-    record
-      { since = later-refl x; acked = i .acked; copies = i .copies; messages = i .messages; writing = i .writing; metadata = i .metadata
-      ; recoverers = i .recoverers; flags = i .flags; writers = i .writers; ledgers = i .ledgers }
+    record {
+      since = later-refl x;
+      acked = i .acked;
+      copies = i .copies;
+      messages = i .messages;
+      writing = i .writing;
+      metadata = i .metadata;
+      recoverers = i .recoverers;
+      flags = i .flags;
+      writers = i .writers;
+      ledgers = i .ledgers;
+    }
 
 pub step-later : {x₀ : World} (ns : List Note) (c : Cluster) (s : Step) → InvAt x₀ ns c
     → Later (world ns c) (world (note-of s c (step c s .answer) ∷ ns) (step c s .next))

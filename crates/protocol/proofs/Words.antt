@@ -80,7 +80,7 @@ clash : (x : World) (l e : ℕ) (y : Layout) → y .sizes .ack ≤ tally (x .ack
 clash x l e y a b =
     let k = y .sizes .acked in
     let p = pigeon (x .acked l e) (barred x l e) (bookies-of y e)
-          (λ v h z. both-ways (x .acked l e v) (not-true (x .acked l e v) (and-parts (is-fenced (x .bookie v) l) (not (x .acked l e v)) z .1)) h) in
+    (λ v h z. both-ways (x .acked l e v) (not-true (x .acked l e v) (and-parts (is-fenced (x .bookie v) l) (not (x .acked l e v)) z .1)) h) in
     let q = length-bookies y e in omega arith
 
 -- so the writer of a closed ledger never confirms past the closing entry
@@ -89,26 +89,31 @@ closed-lac {x₀} {x} i l z = by (subst (StateOk x l (x .writer l) (x .ledger l)
   where
     w : Writer
     w = x .writer l
+
     m : Metadata
     m = x .ledger l
+
     by : (((is-closed (w .state) ≡ true) × (w .lac ≡ m .closing .0)) ⊎ ((w .version < m .version .0) × Sealed x l (m .closing .0) (w .layout))) → w .lac ≤ m .closing .0
     by (inl k) = let p = k .1 in omega arith
     by (inr k) =
-        elim (k .1)
-        [ inl big ↦ (let p = i .writing l .upto in let q = i .writing l .small in omega arith)
-        | inr b ↦ elim (cases-lt (m .closing .0) (w .lac)) [ inl lt ↦ absurd (clash x l (m .closing .0) (w .layout) (i .writing l .firm (m .closing .0) lt) b) | inr le ↦ le ] ]
+        elim (k .1) [
+          | inl big ↦ (let p = i .writing l .upto in let q = i .writing l .small in omega arith)
+          | inr b ↦ elim (cases-lt (m .closing .0) (w .lac)) [ inl lt ↦ absurd (clash x l (m .closing .0) (w .layout) (i .writing l .firm (m .closing .0) lt) b) | inr le ↦ le ]
+        ]
 
 -- confirmed ----------------------------------------------------------------------------------------------------------
 -- the LAC that is answered is the writer's from then on
 reply-lac : (c : Cluster) (l : LedgerId) (b : BookieId) (e : EntryId) (a : Result (Unit {0}) BookieFault) (n : Lac) (k : ℕ)
     → to-writer c l b e a .answer ≡ answer.Confirmed n → k < n .0 → k < writer-of (to-writer c l b e a .next) (l .0) .lac
 reply-lac c l b e a n k said lt =
-    elim (row-or-blank (c .writers) (l .0) no-writer)
-    [ inl z ↦ rw (number-same (c .writers) (l .0) w′ no-writer z) below
-    | inr z ↦ (let v : k < 0 = subst (λ (w : Writer). k < reply-after w (b .0) (e .0) a .lac) z below in let u : ⊥ = omega arith in absurd u) ]
+    elim (row-or-blank (c .writers) (l .0) no-writer) [
+      | inl z ↦ rw (number-same (c .writers) (l .0) w′ no-writer z) below
+      | inr z ↦ (let v : k < 0 = subst (λ (w : Writer). k < reply-after w (b .0) (e .0) a .lac) z below in let u : ⊥ = omega arith in absurd u)
+    ]
   where
     w′ : Writer
     w′ = reply-after (writer-of c (l .0)) (b .0) (e .0) a
+
     below : k < w′ .lac
     below = let same : lac-id (w′ .lac) ≡ n = cc in let s : w′ .lac ≡ n .0 = ap (λ (v : Lac). v .0) same in omega arith
 
@@ -160,10 +165,11 @@ close-says ns c l i =
     (λ _. writing-asked w _ (λ r. Says l (by-client c r (closed c l (close-store w (c .store) l)))) (λ f. refusing)
     (λ _ _. asked (eqb (length (w .pending)) 0) client.Pending _ (λ r. Says l (by-client c r (closed c l (close-store w (c .store) l)))) refusing
     (λ _. put-cases (c .store) l (λ r s. Says l (by-client c (by-put (lac-id (w .lac)) r) (closed c l s))) (version-id (w .version)) Closed (w .layout) (lac-id (w .lac))
-      (λ f q. rw q refusing) (λ _ _ lost. absurd (lost refl)) (λ q30 _ _ _. closed-known c l (version-id (suc (w .version))) (w .layout) (lac-id (w .lac)) (i .ledgers) q30))))
+    (λ f q. rw q refusing) (λ _ _ lost. absurd (lost refl)) (λ q30 _ _ _. closed-known c l (version-id (suc (w .version))) (w .layout) (lac-id (w .lac)) (i .ledgers) q30))))
   where
     w : Writer
     w = writer-of c (l .0)
+
     refusing : {f : StepFault} → Says l (refuse c f)
     refusing h _ = absurd (false≢true h)
 
@@ -176,15 +182,17 @@ finish-says ns c r i =
     ask-cases c (Says l) (at-work (R .phase)) (fault.Missing 1) _ refusing
     (λ q4. asked (is-ended (R .phase)) client.Unfinished _ (λ a. Says l (by-client c a (λ n. done (answer.ClosingEntry n) (with-recoverer (with-store c (finish-store R (c .store))) (r .0) no-recoverer)))) refusing
     (λ _. put-cases (c .store) l
-      (λ a s. Says l (by-client c (finished R (c .store) a) (λ n. done (answer.ClosingEntry n) (with-recoverer (with-store c s) (r .0) no-recoverer))))
-      (R .version) Closed (R .layout) (R .settled) (λ f q. rw q refusing)
-      (λ ne _ _. (under-other (ledger-of c (l .0)) (R .version .0) (i .recoverers (r .0) q4 .under) ne, refl))
-      (λ q30 _ _ _. closed-known c l (version-id (suc (R .version .0))) (R .layout) (R .settled) (i .ledgers) q30)))
+    (λ a s. Says l (by-client c (finished R (c .store) a) (λ n. done (answer.ClosingEntry n) (with-recoverer (with-store c s) (r .0) no-recoverer))))
+    (R .version) Closed (R .layout) (R .settled) (λ f q. rw q refusing)
+    (λ ne _ _. (under-other (ledger-of c (l .0)) (R .version .0) (i .recoverers (r .0) q4 .under) ne, refl))
+    (λ q30 _ _ _. closed-known c l (version-id (suc (R .version .0))) (R .layout) (R .settled) (i .ledgers) q30)))
   where
     R : Recoverer
     R = recoverer-of c (r .0)
+
     l : LedgerId
     l = recoverer-of c (r .0) .ledger
+
     refusing : {f : StepFault} → Says l (refuse c f)
     refusing h _ = absurd (false≢true h)
 
@@ -218,12 +226,14 @@ append-cases ns c l body P i bad good =
     ask-cases c P′ (is-made (w .state)) (fault.Missing 1) _ (bad (fault.Missing 1))
     (λ _. writing-asked w _ K (λ f. bad (fault.Client f)) (λ q7 q8. asked (has-room w) client.Full _ K (bad (fault.Client client.Full))
     (λ _. good (next-entry w)
-      (pending-length (contents-of ns (l .0)) (acked-by ns (l .0)) (w .layout) (w .lac) (w .pending) (i .writing (l .0) .pending q7 q8)))))
+    (pending-length (contents-of ns (l .0)) (acked-by ns (l .0)) (w .layout) (w .lac) (w .pending) (i .writing (l .0) .pending q7 q8)))))
   where
     w : Writer
     w = writer-of c (l .0)
+
     P′ : Outcome → Type 0
     P′ o = P (o .answer)
+
     K : Result EntryId ClientFault → Type 0
     K r = P′ (by-client c r (λ e. done (answer.Entry e) (send (with-writer c (l .0) (appended w body)) (append-sends w l body))))
 
@@ -233,22 +243,24 @@ appended-content : {x₀ : World} (ns : List Note) (c : Cluster) (l : LedgerId) 
 appended-content ns c l b k e body i =
     append-cases ns c l b
     (λ a. ContentAt (contents-of (note-of (Append l b) c a ∷ ns) k) e body
-      → ((Append l b ≡ Append (ledger-id k) body) × (a ≡ answer.Entry (entry-id e))) ⊎ ContentAt (contents-of ns k) e body)
+    → ((Append l b ≡ Append (ledger-id k) body) × (a ≡ answer.Entry (entry-id e))) ⊎ ContentAt (contents-of ns k) e body)
     i (λ f h. inr h)
     (λ n len. cond-both (eqb (l .0) k) (ts ++ (b ∷ [])) ts
-      (λ T. ContentAt T e body → ((Append l b ≡ Append (ledger-id k) body) × (answer.Entry (entry-id n) ≡ answer.Entry (entry-id e))) ⊎ ContentAt ts e body)
-      (λ q h. one n (subst (λ (v : ℕ). length (contents-of ns v) ≡ n) (eqb-true (l .0) k q) len) (eqb-true (l .0) k q) h) (λ _ h. inr h))
+    (λ T. ContentAt T e body → ((Append l b ≡ Append (ledger-id k) body) × (answer.Entry (entry-id n) ≡ answer.Entry (entry-id e))) ⊎ ContentAt ts e body)
+    (λ q h. one n (subst (λ (v : ℕ). length (contents-of ns v) ≡ n) (eqb-true (l .0) k q) len) (eqb-true (l .0) k q) h) (λ _ h. inr h))
   where
     ts : List Body
     ts = contents-of ns k
+
     one : (n : ℕ) → length (contents-of ns k) ≡ n → l .0 ≡ k → ContentAt (contents-of ns k ++ (b ∷ [])) e body
-      → ((Append l b ≡ Append (ledger-id k) body) × (answer.Entry (entry-id n) ≡ answer.Entry (entry-id e))) ⊎ ContentAt (contents-of ns k) e body
+        → ((Append l b ≡ Append (ledger-id k) body) × (answer.Entry (entry-id n) ≡ answer.Entry (entry-id e))) ⊎ ContentAt (contents-of ns k) e body
     one n len same h =
-        elim (cases-lt e (length (contents-of ns k)))
-        [ inl z ↦ inr (z, sym (getD-append-left (contents-of ns k) (b ∷ []) no-body e z) ∙ h .1)
-        | inr z ↦ (let u = h .0 in let g = length-append (contents-of ns k) (b ∷ []) in let q : length (contents-of ns k) ≡ e = omega arith in
-            let text : b ≡ body = sym (getD-at (contents-of ns k) b [] no-body e q) ∙ h .1 in
-            inl (ap (λ (v : ℕ). Append (ledger-id v) b) same ∙ ap (λ (v : Body). Append (ledger-id k) v) text, ap (λ (v : ℕ). answer.Entry (entry-id v)) (sym len ∙ q))) ]
+        elim (cases-lt e (length (contents-of ns k))) [
+          | inl z ↦ inr (z, sym (getD-append-left (contents-of ns k) (b ∷ []) no-body e z) ∙ h .1)
+          | inr z ↦ (let u = h .0 in let g = length-append (contents-of ns k) (b ∷ []) in let q : length (contents-of ns k) ≡ e = omega arith in
+              let text : b ≡ body = sym (getD-at (contents-of ns k) b [] no-body e q) ∙ h .1 in
+              inl (ap (λ (v : ℕ). Append (ledger-id v) b) same ∙ ap (λ (v : Body). Append (ledger-id k) v) text, ap (λ (v : ℕ). answer.Entry (entry-id v)) (sym len ∙ q)))
+        ]
 
 -- a delivery appends nothing
 no-content : (m : Message) (a : Answer) (l : ℕ) (ts : List Body) → add-content (delivery-note m a) l ts ≡ ts
@@ -287,20 +299,20 @@ new-content : {x₀ : World} (ns : List Note) (c : Cluster) (s : Step) (l e : �
 new-content ns c s l e body i (did, said) =
     subst (λ (v : Step). step c v .answer ≡ answer.Entry (entry-id e) → ContentAt (contents-of (note-of v c (step c v .answer) ∷ ns) l) e body) (sym did)
     (append-cases ns c (ledger-id l) body
-      (λ a. a ≡ answer.Entry (entry-id e) → ContentAt (contents-of (note-of (Append (ledger-id l) body) c a ∷ ns) l) e body) i
-      (λ f q. let z : _≡_ {A = ℕ} 0 1 = cc in let v : ⊥ = omega arith in absurd v)
-      (λ n len q. let same : entry-id n ≡ entry-id e = cc in
-        rw (eq-eqb l l refl) (content-last (contents-of ns l) body e (len ∙ ap (λ (v : EntryId). v .0) same)))) said
+    (λ a. a ≡ answer.Entry (entry-id e) → ContentAt (contents-of (note-of (Append (ledger-id l) body) c a ∷ ns) l) e body) i
+    (λ f q. let z : _≡_ {A = ℕ} 0 1 = cc in let v : ⊥ = omega arith in absurd v)
+    (λ n len q. let same : entry-id n ≡ entry-id e = cc in
+    rw (eq-eqb l l refl) (content-last (contents-of ns l) body e (len ∙ ap (λ (v : EntryId). v .0) same)))) said
 
 module _ (c₀ : Cluster) (i₀ : InvAt (world [] c₀) [] c₀) where
   content-appended : {h : History} {c : Cluster} → Runs [] c₀ h c → (l : LedgerId) (e : EntryId) (body : Body)
-    → ContentAt (contents-of (notes h) (l .0)) (e .0) body → Appended h l e body
+      → ContentAt (contents-of (notes h) (l .0)) (e .0) body → Appended h l e body
   content-appended stay l e body z = let k = z .0 in let v : ⊥ = omega arith in absurd v
   content-appended (more {h = h} {c = c} s r) l e body z =
       elim (content-step (notes h) c s (l .0) (e .0) body (run-keeps r i₀) z) [ inl k ↦ inl k | inr k ↦ inr (content-appended r l e body k) ]
 
   appended-is : {h : History} {c : Cluster} → Runs [] c₀ h c → (l : LedgerId) (e : EntryId) (body : Body) → Appended h l e body
-    → ContentAt (contents-of (notes h) (l .0)) (e .0) body
+      → ContentAt (contents-of (notes h) (l .0)) (e .0) body
   appended-is stay l e body z = absurd z
   appended-is (more {h = h} {c = c} s r) l e body (inl z) = new-content (notes h) c s (l .0) (e .0) body (run-keeps r i₀) z
   appended-is (more {h = h} {c = c} s r) l e body (inr z) =
@@ -310,14 +322,15 @@ module _ (c₀ : Cluster) (i₀ : InvAt (world [] c₀) [] c₀) where
 fence-answered : {x₀ : World} (ns : List Note) (c : Cluster) (p : MessagePlace) (r : RecovererId) (l : LedgerId) (b : BookieId) (n : Lac) → InvAt x₀ ns c
     → message-at c p ≡ Fenced r l b n → is-fenced (bookie-of c (b .0)) (l .0) ≡ true
 fence-answered ns c p r l b n i q =
-    elim (cases-bool (waits c p))
-    [ inl z ↦ subst (MessageOk (world ns c)) q (waiting-ok ns c p i z) .0
-    | inr z ↦ (let blank : message-at c p ≡ no-message = getD-past (c .queue .waiting) (p .0) no-message (ltb-false (p .0) (length (c .queue .waiting)) z) in
-        let bad : _≡_ {A = ℕ} 0 1 = cc in let v : ⊥ = omega arith in absurd v) ]
+    elim (cases-bool (waits c p)) [
+      | inl z ↦ subst (MessageOk (world ns c)) q (waiting-ok ns c p i z) .0
+      | inr z ↦ (let blank : message-at c p ≡ no-message = getD-past (c .queue .waiting) (p .0) no-message (ltb-false (p .0) (length (c .queue .waiting)) z) in
+          let bad : _≡_ {A = ℕ} 0 1 = cc in let v : ⊥ = omega arith in absurd v)
+    ]
 
 module _ (c₀ : Cluster) (i₀ : InvAt (world [] c₀) [] c₀) where
   answered-fenced : {h : History} {c : Cluster} → Runs [] c₀ h c → (r : RecovererId) (l : LedgerId) (b : BookieId) → Answered h r l b
-    → is-fenced (bookie-of c (b .0)) (l .0) ≡ true
+      → is-fenced (bookie-of c (b .0)) (l .0) ≡ true
   answered-fenced stay r l b z = absurd z
   answered-fenced (more {h = h} {c = c} s w) r l b (inl (n, (p, did, took))) =
       step-later (notes h) c s (run-keeps w i₀) .fenced (l .0) (b .0) (fence-answered (notes h) c p r l b n (run-keeps w i₀) took)
@@ -359,13 +372,15 @@ blocked : {x₀ x : World} {rs : ℕ → Recoverer} {ms : List Message} → Inv 
 blocked {x₀} {x} i l e t k f h =
     rw (tally-map (barred x l e) (bookie-at y e) (write-set (y .sizes) e))
     (let p = covers-all (y .sizes) t e h in
-      let q = tally-mono t (λ p. barred x l e (bookie-at y e p)) (write-set (y .sizes) e) bar in omega arith)
+    let q = tally-mono t (λ p. barred x l e (bookie-at y e p)) (write-set (y .sizes) e) bar in omega arith)
   where
     y : Layout
     y = x .writer l .layout
+
     never : (b : ℕ) (v : Bool) → x .acked l e b ≡ v → not v ≡ true
     never b true q = let p = held-content i l e b (i .acked l e b q) in let z : ⊥ = omega arith in absurd z
     never b false q = refl
+
     bar : (p : ℕ) → t p ≡ true → barred x l e (bookie-at y e p) ≡ true
     bar p z =
         subst (λ (g : Fragment). barred x l e (getD (g .bookies) p 0) ≡ true)
@@ -390,38 +405,52 @@ shut-run c₀ i₀ h₁ c₁ h c r l e body r₁ on (work, at, t, cov, answered)
   where
     i₁ : InvAt (world [] c₀) (notes h₁) c₁
     i₁ = run-keeps r₁ i₀
+
     R : Recoverer
     R = recoverer-of c₁ (r .0)
+
     w₁ : WorkOk (world (notes h₁) c₁) (recoverer-of c₁ (r .0))
     w₁ = i₁ .recoverers (r .0) work
+
     all : Runs [] c₀ h c
     all = runs-on r₁ on
+
     i : InvAt (world [] c₀) (notes h) c
     i = run-keeps all i₀
+
     later : Later (world (notes h₁) c₁) (world (notes h) c)
     later = run-later on i₁
+
     y : Layout
     y = writer-of c₁ (l .0) .layout
+
     same : recoverer-of c₁ (r .0) .layout ≡ writer-of c₁ (l .0) .layout
     same = w₁ .same ∙ ap (λ (k : LedgerId). writer-of c₁ (k .0) .layout) at
+
     shut : Shut (ledger-of c₁ (l .0))
     shut =
         subst (λ (k : LedgerId). Shut (ledger-of c₁ (k .0))) at
         (under-shut (ledger-of c₁ (recoverer-of c₁ (r .0) .ledger .0)) (recoverer-of c₁ (r .0) .version .0) (w₁ .under))
+
     late : length (contents-of (notes h₁) (l .0)) ≤ e .0
     late =
-        elim (cases-lt (e .0) (length (contents-of (notes h₁) (l .0))))
-        [ inl z ↦ absurd (new (content-appended c₀ i₀ r₁ l e body
-            (z, one-content (contents-of (notes h) (l .0)) (e .0) (getD (contents-of (notes h₁) (l .0)) (e .0) no-body) body
-              (later .contents (l .0) (e .0) (getD (contents-of (notes h₁) (l .0)) (e .0) no-body) (z, refl)) (appended-is c₀ i₀ all l e body app))))
-        | inr z ↦ z ]
+        elim (cases-lt (e .0) (length (contents-of (notes h₁) (l .0)))) [
+          | inl z ↦ absurd (new (content-appended c₀ i₀ r₁ l e body (
+            z,
+            one-content (contents-of (notes h) (l .0)) (e .0) (getD (contents-of (notes h₁) (l .0)) (e .0) no-body) body
+                (later .contents (l .0) (e .0) (getD (contents-of (notes h₁) (l .0)) (e .0) no-body) (z, refl)) (appended-is c₀ i₀ all l e body app),
+          )))
+          | inr z ↦ z
+        ]
+
     bars : blocking (y .sizes) ≤ tally (barred (world (notes h) c) (l .0) (e .0)) (bookies-of y (e .0))
     bars =
         let p = blocked i₁ (l .0) (e .0) t late
-              (λ p q. answered-fenced c₀ i₀ r₁ r l (bookie-id (getD (last-fragment (writer-of c₁ (l .0) .layout) .bookies) p 0))
-                (subst (λ (u : Layout). Answered h₁ r l (bookie-id (getD (last-fragment u .bookies) p 0))) same (answered p q)))
-              (subst (λ (u : Layout). covers (u .sizes) t ≡ true) same cov) in
+        (λ p q. answered-fenced c₀ i₀ r₁ r l (bookie-id (getD (last-fragment (writer-of c₁ (l .0) .layout) .bookies) p 0))
+        (subst (λ (u : Layout). Answered h₁ r l (bookie-id (getD (last-fragment u .bookies) p 0))) same (answered p q)))
+        (subst (λ (u : Layout). covers (u .sizes) t ≡ true) same cov) in
         let q = tally-mono (barred (world (notes h₁) c₁) (l .0) (e .0)) (barred (world (notes h) c) (l .0) (e .0)) (bookies-of y (e .0)) (barred-later later (l .0) (e .0)) in omega arith
+
     acks : y .sizes .ack ≤ tally (acked-by (notes h) (l .0) (e .0)) (bookies-of y (e .0))
     acks =
         subst (λ (u : Layout). u .sizes .ack ≤ tally (acked-by (notes h) (l .0) (e .0)) (bookies-of u (e .0))) (later .frozen (l .0) shut .0)
@@ -429,21 +458,27 @@ shut-run c₀ i₀ h₁ c₁ h c r l e body r₁ on (work, at, t, cov, answered)
 
 pub law : Law
 law h c (spaces, changes, room, run) =
-    record
-      { confirmed = λ l e z k. let p = confirmed-lac c₀ i₀ run l e k in let q = closed-lac i (l .0) z in omega arith
-      ; closed = closed-run c₀ i₀ run
-      ; kept = λ l e z k.
-          (bookies-apart (ledger-of c (l .0) .layout) (i .metadata (l .0) .layout) (e .0)
-          , subst (StateOk (world (notes h) c) (l .0) (writer-of c (l .0)) (ledger-of c (l .0))) z (i .metadata (l .0) .state) .0 (e .0) k)
-      ; copies = λ b. all-weaker (CopyOk (world (notes h) c)) (TrueCopy h)
-          (λ x k. (content-appended c₀ i₀ run (x .ledger) (x .entry) (x .body) (k .0)
-            , λ body a. one-content (contents-of (notes h) (x .ledger .0)) (x .entry .0) body (x .body) (appended-is c₀ i₀ run (x .ledger) (x .entry) body a) (k .0)))
-          (bookie-of c b .entries) (i .copies b)
-      ; shut = λ h₁ c₁ r l e body (s₁, k₁, m₁, r₁) on. shut-run (empty s₁ k₁ m₁) (empty-inv s₁ k₁ m₁) h₁ c₁ h c r l e body r₁ on }
+    record {
+      confirmed = λ l e z k. let p = confirmed-lac c₀ i₀ run l e k in let q = closed-lac i (l .0) z in omega arith;
+      closed = closed-run c₀ i₀ run;
+      kept = λ l e z k. (
+        bookies-apart (ledger-of c (l .0) .layout) (i .metadata (l .0) .layout) (e .0),
+        subst (StateOk (world (notes h) c) (l .0) (writer-of c (l .0)) (ledger-of c (l .0))) z (i .metadata (l .0) .state) .0 (e .0) k,
+      );
+      copies = λ b. all-weaker (CopyOk (world (notes h) c)) (TrueCopy h)
+          (λ x k. (
+            content-appended c₀ i₀ run (x .ledger) (x .entry) (x .body) (k .0),
+            λ body a. one-content (contents-of (notes h) (x .ledger .0)) (x .entry .0) body (x .body) (appended-is c₀ i₀ run (x .ledger) (x .entry) body a) (k .0),
+          ))
+          (bookie-of c b .entries) (i .copies b);
+      shut = λ h₁ c₁ r l e body (s₁, k₁, m₁, r₁) on. shut-run (empty s₁ k₁ m₁) (empty-inv s₁ k₁ m₁) h₁ c₁ h c r l e body r₁ on;
+    }
   where
     c₀ : Cluster
     c₀ = empty spaces changes room
+
     i₀ : InvAt (world [] (empty spaces changes room)) [] (empty spaces changes room)
     i₀ = empty-inv spaces changes room
+
     i : InvAt (world [] (empty spaces changes room)) (notes h) c
     i = run-keeps run (empty-inv spaces changes room)

@@ -125,9 +125,15 @@ pub record World : Type 0 where
 
 abbrev pub world : List Note → Cluster → World
 world ns c =
-    record
-      { bookie = bookie-of c; writer = writer-of c; ledger = ledger-of c; contents = contents-of ns; acked = acked-by ns
-      ; writers = length (c .writers); ledgers = length (c .store .ledgers) }
+    record {
+      bookie = bookie-of c;
+      writer = writer-of c;
+      ledger = ledger-of c;
+      contents = contents-of ns;
+      acked = acked-by ns;
+      writers = length (c .writers);
+      ledgers = length (c .store .ledgers);
+    }
 
 -- facts of messages and copies ---------------------------------------------------------------------------------------
 -- entry e has this content
@@ -247,7 +253,7 @@ pub record Later (x y : World) : Type 0 where
   pub lac : (l : ℕ) → x .writer l .lac ≤ y .writer l .lac
   -- a recovery ends the changes of its ledger's layout
   pub frozen : (l : ℕ) → Shut (x .ledger l)
-    → (y .writer l .layout ≡ x .writer l .layout) × Shut (y .ledger l) × ((v : ℕ) → Under (x .ledger l) v → Under (y .ledger l) v)
+      → (y .writer l .layout ≡ x .writer l .layout) × Shut (y .ledger l) × ((v : ℕ) → Under (x .ledger l) v → Under (y .ledger l) v)
   -- a close is for ever, and its entry too
   pub closed : (l : ℕ) → x .ledger l .state ≡ Closed → (y .ledger l .state ≡ Closed) × (y .ledger l .closing .0 ≡ x .ledger l .closing .0)
   pub flags : (b : ℕ) → length (y .bookie b .fences) ≡ length (x .bookie b .fences)

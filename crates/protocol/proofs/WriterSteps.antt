@@ -82,27 +82,38 @@ create-keeps {x₀} ns c l e w k bs i =
   where
     K : Outcome → Type 0
     K o = InvAt x₀ ns (o .next)
+
     new-record : Layout → Metadata
     new-record y = record { version = version-id 1; state = Open; layout = y; closing = lac-id 0 }
+
     made : (y : Layout) → LayoutOk y → last-first y ≡ 0 → is-ledger (l .0) ≡ true → exists (c .store) (l .0) ≡ false
-      → InvAt x₀ ns (put-by-writer c (l .0) (new-writer y) (new-record y))
+        → InvAt x₀ ns (put-by-writer c (l .0) (new-writer y) (new-record y))
     made y ok zero-first q30 absent =
         let f = i .metadata (l .0) .free (ap (λ (m : Metadata). m .version .0) (absent-known (kept (c .store) (l .0)) absent)) in
         let none = i .writing (l .0) .blank (f .1) in let up = i .writing (l .0) .upto in
         puts-inv ns c (l .0) (new-writer y) (new-record y) (ledger-row (c .writers) (l .0) (i .writers) q30) (ledger-row (c .store .ledgers) (l .0) (i .ledgers) q30)
-        (record
-          { lac = omega arith; was-open = f .0
-          ; writer =
-              record
-                { upto = omega arith; small = i .writing (l .0) .small; firm = λ e k. let v : ⊥ = omega arith in absurd v; pending = λ _ _. none
-                ; first = omega arith; blank = λ _. none; layout = ok }
-          ; ledger = record { free = λ k. let v : ⊥ = omega arith in absurd v; state = (refl, refl, refl); layout = ok } }) i
+        (record {
+          lac = omega arith;
+          was-open = f .0;
+          writer =
+              record {
+                upto = omega arith;
+                small = i .writing (l .0) .small;
+                firm = λ e k. let v : ⊥ = omega arith in absurd v;
+                pending = λ _ _. none;
+                first = omega arith;
+                blank = λ _. none;
+                layout = ok;
+              };
+          ledger = record { free = λ k. let v : ⊥ = omega arith in absurd v; state = (refl, refl, refl); layout = ok };
+        }) i
+
     sized : (s : Option Sizes) → K (create-sized c l bs s)
     sized None = i
     sized (Some s) =
         ask-cases c K (eqb (length (listed bs)) (s .ensemble) && distinct (listed bs)) (fault.Client client.Ensemble) _ i
         (λ q6. create-cases (c .store) l (λ r st. K (by-client c (by-store r) (created c l (first-layout s (bs .numbers)) st)))
-          (first-layout s (bs .numbers)) (λ f. i) (made (first-layout s (bs .numbers)) (listed-ok s bs q6) refl))
+        (first-layout s (bs .numbers)) (λ f. i) (made (first-layout s (bs .numbers)) (listed-ok s bs q6) refl))
 
 -- append -------------------------------------------------------------------------------------------------------------
 -- contents and pending adds end at the same entry
@@ -140,60 +151,77 @@ append-keeps {x₀} ns c l body i =
   where
     w : Writer
     w = writer-of c (l .0)
+
     w′ : Writer
     w′ = appended w body
+
     c′ : Cluster
     c′ = with-writer c (l .0) w′
+
     K : Result EntryId ClientFault → Type 0
     K r = Keeps x₀ ns c (Append l body) (by-client c r (λ e. done (answer.Entry e) (send c′ (append-sends w l body))))
+
     ks : List Note
     ks = content-note (l .0) body ∷ ns
+
     y : World
     y = world ks c′
+
     -- the contents of each ledger are the old ones, and those of this one have one more
     contents-are : (k : ℕ) (P : List Body → Type 0) → (l .0 ≡ k → P (contents-of ns k ++ (body ∷ []))) → ((l .0 ≡ k → ⊥) → P (contents-of ns k)) → P (contents-of ks k)
     contents-are k P f g =
         cond-both (eqb (l .0) k) (contents-of ns k ++ (body ∷ [])) (contents-of ns k) P (λ q. f (eqb-true (l .0) k q)) (λ q. g (eqb-false (l .0) k q))
+
     grown : is-made (w .state) ≡ true → is-shut-out (w .state) ≡ false → is-closed (w .state) ≡ false → next-entry w < max-entries
-      → InvAt x₀ ks (send c′ (append-sends w l body))
+        → InvAt x₀ ks (send c′ (append-sends w l body))
     grown made f o room =
         sent-inv ks c′ (append-sends w l body) inv
-        (adds-to-ok y (w .layout) l (next-entry w) (w .lac) (new-add body) (write-set (w .layout .sizes) (next-entry w))
-          (contents-are (l .0) (λ T. ContentAt T (next-entry w) body) (λ _. content-last (contents-of ns (l .0)) body (next-entry w) len) (λ ne. absurd (ne refl))
-          , t .lac (l .0)))
+        (adds-to-ok y (w .layout) l (next-entry w) (w .lac) (new-add body) (write-set (w .layout .sizes) (next-entry w)) (
+          contents-are (l .0) (λ T. ContentAt T (next-entry w) body) (λ _. content-last (contents-of ns (l .0)) body (next-entry w) len) (λ ne. absurd (ne refl)),
+          t .lac (l .0),
+        ))
       where
         inW : HasRow (c .writers) (l .0)
         inW = has-row (λ v. is-made (v .state)) (c .writers) (l .0) no-writer refl made
+
         pending : PendingOk (contents-of ns (l .0)) (acked-by ns (l .0)) (w .layout) (w .lac) (w .pending)
         pending = i .writing (l .0) .pending f o
+
         len : length (contents-of ns (l .0)) ≡ next-entry w
         len = pending-length (contents-of ns (l .0)) (acked-by ns (l .0)) (w .layout) (w .lac) (w .pending) pending
+
         t : Later (world ns c) y
         t =
             writer-later ns ks c (l .0) w′ (record { lac = omega arith; layout = refl })
             (λ k e b h. contents-are k (λ T. ContentAt T e b) (λ _. content-more (contents-of ns k) body e b h) (λ _. h)) (λ k e b. refl)
+
         old : WriterOk (contents-of ns (l .0)) (acked-by ns (l .0)) w
         old = i .writing (l .0)
+
         new : WriterOk (contents-of ns (l .0) ++ (body ∷ [])) (acked-by ns (l .0)) w′
         new =
-            record
-              { upto = let u = old .upto in rw (length-append (contents-of ns (l .0)) (body ∷ [])) (omega arith)
-              ; small = let k = len in rw (length-append (contents-of ns (l .0)) (body ∷ [])) (omega arith)
-              ; firm = old .firm
-              ; pending = λ _ _. pending-push (contents-of ns (l .0)) body (acked-by ns (l .0)) (w .layout) (w .lac) (w .pending) pending
-              ; first = old .first; blank = λ b. absurd (both-ways (is-made (w .state)) b made); layout = old .layout }
+            record {
+              upto = let u = old .upto in rw (length-append (contents-of ns (l .0)) (body ∷ [])) (omega arith);
+              small = let k = len in rw (length-append (contents-of ns (l .0)) (body ∷ [])) (omega arith);
+              firm = old .firm;
+              pending = λ _ _. pending-push (contents-of ns (l .0)) body (acked-by ns (l .0)) (w .layout) (w .lac) (w .pending) pending;
+              first = old .first;
+              blank = λ b. absurd (both-ways (is-made (w .state)) b made);
+              layout = old .layout;
+            }
+
         inv : InvAt x₀ ks c′
         inv =
             inv-later t i (i .acked) (λ b. copies-later t (bookie-of c b .entries) (i .copies b))
             (λ k. at-number-in (WriterOk (contents-of ks k) (acked-by ns k)) (c .writers) (l .0) k w′ no-writer inW
-              (λ q. subst (λ (n : ℕ). WriterOk (contents-of ks n) (acked-by ns n) w′) (sym q)
-                (contents-are (l .0) (λ T. WriterOk T (acked-by ns (l .0)) w′) (λ _. new) (λ ne. absurd (ne refl))))
-              (λ ne. contents-are k (λ T. WriterOk T (acked-by ns k) (writer-of c k)) (λ q. absurd (ne (sym q))) (λ _. i .writing k)))
+            (λ q. subst (λ (n : ℕ). WriterOk (contents-of ks n) (acked-by ns n) w′) (sym q)
+            (contents-are (l .0) (λ T. WriterOk T (acked-by ns (l .0)) w′) (λ _. new) (λ ne. absurd (ne refl))))
+            (λ ne. contents-are k (λ T. WriterOk T (acked-by ns k) (writer-of c k)) (λ q. absurd (ne (sym q))) (λ _. i .writing k)))
             (λ k. at-number (λ v. LedgerOk y k v (ledger-of c k)) (c .writers) (l .0) k w′ no-writer
-              (λ q. subst (λ (n : ℕ). LedgerOk y n w′ (ledger-of c n)) (sym q)
-                (ledger-later t (l .0) w′ (ledger-of c (l .0))
-                  (front-ledger (world ns c) (l .0) w (ledger-of c (l .0)) (w .lac) (w′ .pending) (w .state) o o (λ z. z) (i .metadata (l .0)))))
-              (ledger-later t k (writer-of c k) (ledger-of c k) (i .metadata k)))
+            (λ q. subst (λ (n : ℕ). LedgerOk y n w′ (ledger-of c n)) (sym q)
+            (ledger-later t (l .0) w′ (ledger-of c (l .0))
+            (front-ledger (world ns c) (l .0) w (ledger-of c (l .0)) (w .lac) (w′ .pending) (w .state) o o (λ z. z) (i .metadata (l .0)))))
+            (ledger-later t k (writer-of c k) (ledger-of c k) (i .metadata k)))
 
 -- resend -------------------------------------------------------------------------------------------------------------
 all-adds-ok : (x : World) (u : Layout) (l : LedgerId) (n e : ℕ) (ps : List PendingAdd) → n ≤ x .writer (l .0) .lac
@@ -208,15 +236,15 @@ resend-keeps {x₀} ns c l i =
     ask-cases c (Keeps x₀ ns c (Resend l)) (is-made (w .state)) (fault.Missing 1) _ i
     (λ _. writing-asked w (Ok tt) (λ r. Keeps x₀ ns c (Resend l) (by-client c r (λ _. waiting (send c (resends w l))))) (λ f. i)
     (λ q7 q8. sent-inv ns c (resends w l) i
-      (all-adds-ok (world ns c) (w .layout) l (w .lac) (w .lac) (w .pending) (omega arith) (i .writing (l .0) .pending q7 q8))))
+    (all-adds-ok (world ns c) (w .layout) l (w .lac) (w .lac) (w .pending) (omega arith) (i .writing (l .0) .pending q7 q8))))
   where
     w : Writer
     w = writer-of c (l .0)
 
 -- puts of a writer ---------------------------------------------------------------------------------------------------
 -- metadata at the version of a writer that has not closed is open
-is-open : (x : World) (l : ℕ) (w : Writer) (m : Metadata) → is-closed (w .state) ≡ false → m .version .0 ≡ w .version → LedgerOk x l w m → m .state ≡ Open
-is-open x l w m o v h = by (m .state) refl (h .state)
+open-at-version : (x : World) (l : ℕ) (w : Writer) (m : Metadata) → is-closed (w .state) ≡ false → m .version .0 ≡ w .version → LedgerOk x l w m → m .state ≡ Open
+open-at-version x l w m o v h = by (m .state) refl (h .state)
   where
     by : (st : LedgerState) → m .state ≡ st → StateOk x l w m st → m .state ≡ Open
     by Open q k = q
@@ -238,26 +266,37 @@ close-keeps {x₀} ns c l i =
     (λ q4. writing-asked w _ (λ r. K (by-client c r (closed c l (close-store w (c .store) l)))) (λ f. i)
     (λ _ q8. asked (eqb (length (w .pending)) 0) client.Pending _ (λ r. K (by-client c r (closed c l (close-store w (c .store) l)))) i
     (λ _. put-cases (c .store) l (λ r s. K (by-client c (by-put (lac-id (w .lac)) r) (closed c l s))) (version-id (w .version)) Closed (w .layout) (lac-id (w .lac))
-      (λ f q. rw q i) (λ _. lose-inv ns c l q4 q8 i) (close-it q4 q8))))
+    (λ f q. rw q i) (λ _. lose-inv ns c l q4 q8 i) (close-it q4 q8))))
   where
     K : Outcome → Type 0
     K o = InvAt x₀ ns (o .next)
+
     w : Writer
     w = writer-of c (l .0)
+
     m′ : Metadata
     m′ = record { version = version-id (suc (w .version)); state = Closed; layout = w .layout; closing = lac-id (w .lac) }
+
     close-it : is-made (w .state) ≡ true → is-closed (w .state) ≡ false → is-ledger (l .0) ≡ true → ledger-of c (l .0) .version .0 ≡ w .version
-      → InvAt x₀ ns (put-by-writer c (l .0) (closed-writer w) m′)
+        → InvAt x₀ ns (put-by-writer c (l .0) (closed-writer w) m′)
     close-it made o q30 v =
         let old = i .writing (l .0) in
         puts-inv ns c (l .0) (closed-writer w) m′ (ledger-row (c .writers) (l .0) (i .writers) q30) (ledger-row (c .store .ledgers) (l .0) (i .ledgers) q30)
-        (record
-          { lac = omega arith; was-open = is-open (world ns c) (l .0) w (ledger-of c (l .0)) o v (i .metadata (l .0))
-          ; writer =
-              record
-                { upto = old .upto; small = old .small; firm = old .firm; pending = λ _ k. absurd (true≢false k); first = old .first
-                ; blank = λ b. absurd (true≢false b); layout = old .layout }
-          ; ledger = record { free = λ k. let b : ⊥ = omega arith in absurd b; state = (lac-copied i (l .0), inl (refl, refl)); layout = old .layout } }) i
+        (record {
+          lac = omega arith;
+          was-open = open-at-version (world ns c) (l .0) w (ledger-of c (l .0)) o v (i .metadata (l .0));
+          writer =
+              record {
+                upto = old .upto;
+                small = old .small;
+                firm = old .firm;
+                pending = λ _ k. absurd (true≢false k);
+                first = old .first;
+                blank = λ b. absurd (true≢false b);
+                layout = old .layout;
+              };
+          ledger = record { free = λ k. let b : ⊥ = omega arith in absurd b; state = (lac-copied i (l .0), inl (refl, refl)); layout = old .layout };
+        }) i
 
 -- ensemble change ----------------------------------------------------------------------------------------------------
 -- entries from the last fragment's first on belong to it
@@ -287,31 +326,34 @@ changed-at y n p b room = by (alters y n) refl
   where
     f : Fragment
     f = changed-fragment (last-fragment y) n p b
+
     by : (t : Bool) → alters y n ≡ t → ChangedAt y n p b
     by true t =
         let c : y .count ≡ suc (y .count - 1) = let s = y .some in omega arith in
-        record
-          { place = y .count - 1
-          ; count = ap (λ v. cond v (y .count) (min 8 (suc (y .count)))) t ∙ c
-          ; fragments = ap (λ v. set (y .fragments) (cond v (y .count - 1) (y .count)) f) t
-          ; inside = let s = y .some in let l = y .few in let g = y .eight in omega arith
-          ; below = λ e h.
+        record {
+          place = y .count - 1;
+          count = ap (λ v. cond v (y .count) (min 8 (suc (y .count)))) t ∙ c;
+          fragments = ap (λ v. set (y .fragments) (cond v (y .count - 1) (y .count)) f) t;
+          inside = let s = y .some in let l = y .few in let g = y .eight in omega arith;
+          below = λ e h.
               sym (ap (λ m. fragment-below (y .fragments) m e) c
-              ∙ cond-false _ _ _ (lt-leb (last-first y) e (let z = eqb-true (last-first y) n t in omega arith)))
-          ; within = omega arith
-          ; start = λ o. sym (eqb-true (last-first y) n t) ∙ ap (λ m. getD (y .fragments) m no-fragment .first .0) o }
+              ∙ cond-false _ _ _ (lt-leb (last-first y) e (let z = eqb-true (last-first y) n t in omega arith)));
+          within = omega arith;
+          start = λ o. sym (eqb-true (last-first y) n t) ∙ ap (λ m. getD (y .fragments) m no-fragment .first .0) o;
+        }
     by false t =
         let r : ltb (y .count) 8 ≡ true = elim (or-cases (alters y n) (ltb (y .count) 8) room) [ inl z ↦ absurd (both-ways (alters y n) t z) | inr z ↦ z ] in
         let few : y .count < 8 = ltb-true (y .count) 8 r in
         let more-count : min 8 (suc (y .count)) ≡ suc (y .count) = omega arith in
-        record
-          { place = y .count
-          ; count = ap (λ v. cond v (y .count) (min 8 (suc (y .count)))) t ∙ more-count
-          ; fragments = ap (λ v. set (y .fragments) (cond v (y .count - 1) (y .count)) f) t
-          ; inside = let g = y .eight in omega arith
-          ; below = λ e h. refl
-          ; within = omega arith
-          ; start = λ o. let s = y .some in let v : ⊥ = omega arith in absurd v }
+        record {
+          place = y .count;
+          count = ap (λ v. cond v (y .count) (min 8 (suc (y .count)))) t ∙ more-count;
+          fragments = ap (λ v. set (y .fragments) (cond v (y .count - 1) (y .count)) f) t;
+          inside = let g = y .eight in omega arith;
+          below = λ e h. refl;
+          within = omega arith;
+          start = λ o. let s = y .some in let v : ⊥ = omega arith in absurd v;
+        }
 
 module _ (y : Layout) (n p b : ℕ) (room : room-for y n ≡ true) where
   z : ChangedAt y n p b
@@ -325,7 +367,7 @@ module _ (y : Layout) (n p b : ℕ) (room : room-for y n ≡ true) where
   changed-of e =
       ap (λ m. fragment-below (changed-layout y n p b .fragments) m e) (z .count) ∙ ap (λ fs. fragment-below fs (suc (z .place)) e) (z .fragments)
       ∙ ap (λ (g : Fragment). cond (leb (g .first .0) e) g (fragment-below (set (y .fragments) (z .place) new) (z .place) e))
-          (getD-set-same (y .fragments) (z .place) new no-fragment (z .inside))
+      (getD-set-same (y .fragments) (z .place) new no-fragment (z .inside))
       ∙ ap (λ g. cond (leb n e) new g) (below-set (y .fragments) (z .place) new (z .place) e (omega arith))
 
   -- entries before the change stay where they are
@@ -345,41 +387,44 @@ module _ (y : Layout) (n p b : ℕ) (room : room-for y n ≡ true) where
       let c = z .count in
       let k : changed-layout y n p b .count - 1 ≡ z .place = omega arith in
       let f = ap (λ m. getD (changed-layout y n p b .fragments) m no-fragment) k ∙ ap (λ fs. getD fs (z .place) no-fragment) (z .fragments)
-            ∙ getD-set-same (y .fragments) (z .place) new no-fragment (z .inside) in
+      ∙ getD-set-same (y .fragments) (z .place) new no-fragment (z .inside) in
       let g = ap (λ (h : Fragment). h .first .0) f in omega arith
 
   -- the bookies stay different
   changed-ok : LayoutOk y → not (member b (take (y .sizes .ensemble) (last-fragment y .bookies))) ≡ true → LayoutOk (changed-layout y n p b)
   unfolding new
   changed-ok h free =
-      record
-        { first = rw (z .fragments)
-            (at-set-in (λ (f : Fragment). f .first .0 ≡ 0) (y .fragments) (z .place) 0 new no-fragment (z .inside) (λ o. z .start (sym o) ∙ h .first) (λ _. h .first))
-        ; full = λ i l. rw (z .fragments)
+      record {
+        first = rw (z .fragments)
+            (at-set-in (λ (f : Fragment). f .first .0 ≡ 0) (y .fragments) (z .place) 0 new no-fragment (z .inside) (λ o. z .start (sym o) ∙ h .first) (λ _. h .first));
+        full = λ i l. rw (z .fragments)
             (at-set-in (λ (f : Fragment). y .sizes .ensemble ≤ length (f .bookies)) (y .fragments) (z .place) i new no-fragment (z .inside)
-              (λ _. let e = length-set (last-fragment y .bookies) p b in let v = h .full (y .count - 1) last in omega arith) (λ ne. h .full i (within i l ne)))
-        ; apart = λ i l. rw (z .fragments)
+            (λ _. let e = length-set (last-fragment y .bookies) p b in let v = h .full (y .count - 1) last in omega arith) (λ ne. h .full i (within i l ne)));
+        apart = λ i l. rw (z .fragments)
             (at-set-in (λ (f : Fragment). distinct (take (y .sizes .ensemble) (f .bookies)) ≡ true) (y .fragments) (z .place) i new no-fragment (z .inside)
-              (λ _. ap distinct (take-of-set (y .sizes .ensemble) (last-fragment y .bookies) p b)
-                ∙ distinct-set (take (y .sizes .ensemble) (last-fragment y .bookies)) p b (h .apart (y .count - 1) last)
-                    (not-true (member b (take (y .sizes .ensemble) (last-fragment y .bookies))) free))
-              (λ ne. h .apart i (within i l ne))) }
+            (λ _. ap distinct (take-of-set (y .sizes .ensemble) (last-fragment y .bookies) p b)
+            ∙ distinct-set (take (y .sizes .ensemble) (last-fragment y .bookies)) p b (h .apart (y .count - 1) last)
+            (not-true (member b (take (y .sizes .ensemble) (last-fragment y .bookies))) free))
+            (λ ne. h .apart i (within i l ne)));
+      }
     where
       last : y .count - 1 < y .count
       last = let s = y .some in omega arith
+
       within : (i : ℕ) → i < changed-layout y n p b .count → (i ≡ z .place → ⊥) → i < y .count
       within i l ne = let c = z .count in let v = z .within in omega arith
 
   -- pending entries lose the mark at the position that changes
   changed-pending : (ts : List Body) (A : ℕ → ℕ → Bool) (e : ℕ) (ps : List PendingAdd) → n ≤ e → last-first y ≤ n → PendingOk ts A y e ps
-    → PendingOk ts A (changed-layout y n p b) e (map (unmarked p) ps)
+      → PendingOk ts A (changed-layout y n p b) e (map (unmarked p) ps)
   changed-pending ts A e [] k h g = g
-  changed-pending ts A e (a ∷ ps) k h g =
-      (g .0
-      , (λ q m. let u = unmark-is (a .marks) p q m in
-          subst (λ (v : ℕ). A e v ≡ true)
-          (sym (ap (λ bs. getD bs q 0) (changed-above e k h) ∙ getD-set-other (fragment-of y e .bookies) p q b 0 (u .0))) (g .1 q (u .1)))
-      , changed-pending ts A (suc e) ps (omega arith) h (g .2))
+  changed-pending ts A e (a ∷ ps) k h g = (
+    g .0,
+    (λ q m. let u = unmark-is (a .marks) p q m in
+        subst (λ (v : ℕ). A e v ≡ true)
+        (sym (ap (λ bs. getD bs q 0) (changed-above e k h) ∙ getD-set-other (fragment-of y e .bookies) p q b 0 (u .0))) (g .1 q (u .1))),
+    changed-pending ts A (suc e) ps (omega arith) h (g .2),
+  )
 
 adds-at-ok : (x : World) (u y : Layout) (l : LedgerId) (n q : ℕ) (b : BookieId) (e : ℕ) (ps : List PendingAdd) → n ≤ x .writer (l .0) .lac
     → PendingOk (x .contents (l .0)) (x .acked (l .0)) u e ps → All (MessageOk x) (adds-at y l n q b e ps)
@@ -395,47 +440,65 @@ change-keeps {x₀} ns c l p b i =
     (λ _. asked (change-fits (w .layout) (p .0) (b .0)) client.Ensemble _ K′ i
     (λ q6. writing-asked w _ K′ (λ f. i) (λ q7 q8. asked (room-for (w .layout) (w .lac)) client.Fragments _ K′ i
     (λ q12. put-cases (c .store) l (λ r s. K (by-client c (by-put (entry-id (w .lac)) r) (changed c l p b s))) (version-id (w .version)) Open y (lac-id 0)
-      (λ f q. rw q i) (λ _. lose-inv ns c l q4 q8 i)
-      (change-it q12 (and-parts (not (member (b .0) (take (w .layout .sizes .ensemble) (last-fragment (w .layout) .bookies)))) (ltb (p .0) (w .layout .sizes .ensemble)) q6 .0) q7 q8))))))
+    (λ f q. rw q i) (λ _. lose-inv ns c l q4 q8 i)
+    (change-it q12 (and-parts (not (member (b .0) (take (w .layout .sizes .ensemble) (last-fragment (w .layout) .bookies)))) (ltb (p .0) (w .layout .sizes .ensemble)) q6 .0) q7 q8))))))
   where
     K : Outcome → Type 0
     K o = InvAt x₀ ns (o .next)
+
     w : Writer
     w = writer-of c (l .0)
+
     y : Layout
     y = new-layout w p b
+
     K′ : Result (Option EntryId) ClientFault → Type 0
     K′ r = K (by-client c r (changed c l p b (change-store (writer-of c (l .0)) (c .store) l p b)))
+
     m′ : Metadata
     m′ = record { version = version-id (suc (w .version)); state = Open; layout = y; closing = lac-id 0 }
+
     c′ : Cluster
     c′ = put-by-writer c (l .0) (changed-writer w p b) m′
+
     old : WriterOk (contents-of ns (l .0)) (acked-by ns (l .0)) w
     old = i .writing (l .0)
+
     change-it : room-for (w .layout) (w .lac) ≡ true → not (member (b .0) (take (w .layout .sizes .ensemble) (last-fragment (w .layout) .bookies))) ≡ true
-      → is-shut-out (w .state) ≡ false → is-closed (w .state) ≡ false → is-ledger (l .0) ≡ true → ledger-of c (l .0) .version .0 ≡ w .version
-      → InvAt x₀ ns (send c′ (change-sends w l p b))
+        → is-shut-out (w .state) ≡ false → is-closed (w .state) ≡ false → is-ledger (l .0) ≡ true → ledger-of c (l .0) .version .0 ≡ w .version
+        → InvAt x₀ ns (send c′ (change-sends w l p b))
     change-it room free f o q30 v =
         sent-inv ns c′ (change-sends w l p b) (puts-inv ns c (l .0) (changed-writer w p b) m′ inW inL h i)
         (adds-at-ok (world ns c′) (w .layout) y l (w .lac) (p .0) b (w .lac) (w .pending) (puts-later ns c (l .0) (changed-writer w p b) m′ inW inL h .lac (l .0)) (old .pending f o))
       where
         inW : HasRow (c .writers) (l .0)
         inW = ledger-row (c .writers) (l .0) (i .writers) q30
+
         inL : HasRow (c .store .ledgers) (l .0)
         inL = ledger-row (c .store .ledgers) (l .0) (i .ledgers) q30
+
         ok : LayoutOk y
         ok = changed-ok (w .layout) (w .lac) (p .0) (b .0) room (old .layout) free
+
         firm : (e : ℕ) → e < w .lac → y .sizes .ack ≤ tally (acked-by ns (l .0) e) (bookies-of y e)
         firm e k =
             subst (λ (g : Fragment). w .layout .sizes .ack ≤ tally (acked-by ns (l .0) e) (map (λ q. getD (g .bookies) q 0) (write-set (w .layout .sizes) e)))
             (sym (changed-below (w .layout) (w .lac) (p .0) (b .0) room e k)) (old .firm e k)
+
         h : Puts (world ns c) (l .0) w (changed-writer w p b) (ledger-of c (l .0)) m′
         h =
-            record
-              { lac = omega arith; was-open = is-open (world ns c) (l .0) w (ledger-of c (l .0)) o v (i .metadata (l .0))
-              ; writer =
-                  record
-                    { upto = old .upto; small = old .small; firm = firm
-                    ; pending = λ f o. changed-pending (w .layout) (w .lac) (p .0) (b .0) room (contents-of ns (l .0)) (acked-by ns (l .0)) (w .lac) (w .pending) (omega arith) (old .first) (old .pending f o)
-                    ; first = changed-first (w .layout) (w .lac) (p .0) (b .0) room; blank = old .blank; layout = ok }
-              ; ledger = record { free = λ k. let z : ⊥ = omega arith in absurd z; state = (refl, o, refl); layout = ok } }
+            record {
+              lac = omega arith;
+              was-open = open-at-version (world ns c) (l .0) w (ledger-of c (l .0)) o v (i .metadata (l .0));
+              writer =
+                  record {
+                    upto = old .upto;
+                    small = old .small;
+                    firm = firm;
+                    pending = λ f o. changed-pending (w .layout) (w .lac) (p .0) (b .0) room (contents-of ns (l .0)) (acked-by ns (l .0)) (w .lac) (w .pending) (omega arith) (old .first) (old .pending f o);
+                    first = changed-first (w .layout) (w .lac) (p .0) (b .0) room;
+                    blank = old .blank;
+                    layout = ok;
+                  };
+              ledger = record { free = λ k. let z : ⊥ = omega arith in absurd z; state = (refl, o, refl); layout = ok };
+            }

@@ -24,12 +24,13 @@ pub record Cluster : Type 0 where
 -- set up empty: new bookies with these spaces, no ledger in the store, no client at work and no message
 abbrev pub empty : List ℕ → ℕ → ℕ → Cluster
 empty spaces changes room =
-    record
-      { bookies = map new-bookie spaces
-      ; store = record { ledgers = replicate max-ledgers None; changes = changes }
-      ; writers = replicate max-ledgers no-writer
-      ; recoverers = replicate max-recoverers no-recoverer
-      ; queue = record { room = room; waiting = [] } }
+    record {
+      bookies = map new-bookie spaces;
+      store = record { ledgers = replicate max-ledgers None; changes = changes };
+      writers = replicate max-ledgers no-writer;
+      recoverers = replicate max-recoverers no-recoverer;
+      queue = record { room = room; waiting = [] };
+    }
 
 abbrev pub bookie-of : Cluster → ℕ → Bookie
 bookie-of c b = getD (c .bookies) b no-bookie
@@ -52,15 +53,23 @@ with-store c s = record { bookies = c .bookies; store = s; writers = c .writers;
 
 abbrev pub with-writer : Cluster → ℕ → Writer → Cluster
 with-writer c l w =
-    record
-      { bookies = c .bookies; store = c .store; writers = renumbered (c .writers) l w; recoverers = c .recoverers
-      ; queue = c .queue }
+    record {
+      bookies = c .bookies;
+      store = c .store;
+      writers = renumbered (c .writers) l w;
+      recoverers = c .recoverers;
+      queue = c .queue;
+    }
 
 abbrev pub with-recoverer : Cluster → ℕ → Recoverer → Cluster
 with-recoverer c r x =
-    record
-      { bookies = c .bookies; store = c .store; writers = c .writers; recoverers = renumbered (c .recoverers) r x
-      ; queue = c .queue }
+    record {
+      bookies = c .bookies;
+      store = c .store;
+      writers = c .writers;
+      recoverers = renumbered (c .recoverers) r x;
+      queue = c .queue;
+    }
 
 abbrev pub with-queue : Cluster → Queue → Cluster
 with-queue c q = record { bookies = c .bookies; store = c .store; writers = c .writers; recoverers = c .recoverers; queue = q }

@@ -53,8 +53,8 @@ pub record Word (h : History) (c : Cluster) : Type 0 where
   pub copies : (b : ℕ) → All (TrueCopy h) (bookie-of c b .entries)
   -- once the fence round of a recovery was covered, no entry appended to that ledger afterwards is ever confirmed
   pub shut : (h₁ : History) (c₁ : Cluster) (r : RecovererId) (l : LedgerId) (e : EntryId) (body : Body)
-    → Reached h₁ c₁ → Runs h₁ c₁ h c → Covered h₁ c₁ r l
-    → Appended h l e body → (Appended h₁ l e body → ⊥) → Confirmed h l e → ⊥
+      → Reached h₁ c₁ → Runs h₁ c₁ h c → Covered h₁ c₁ r l
+      → Appended h l e body → (Appended h₁ l e body → ⊥) → Confirmed h l e → ⊥
 
 abbrev pub Law : Type 0
 Law = (h : History) (c : Cluster) → Reached h c → Word h c
@@ -73,18 +73,18 @@ pub record Rounds (h : History) (c : Cluster) : Type 0 where
   pub fenced : (r : RecovererId) → past-fences (recoverer-of c (r .0) .phase) ≡ true → Covered h c r (recoverer-of c (r .0) .ledger)
   -- the layout that a recoverer at work has read is that of the metadata, until the ledger is closed
   pub read : (r : RecovererId) → at-work (recoverer-of c (r .0) .phase) ≡ true
-    → IsClosed c (recoverer-of c (r .0) .ledger) ⊎ (recoverer-of c (r .0) .layout ≡ ledger-of c (recoverer-of c (r .0) .ledger .0) .layout)
+      → IsClosed c (recoverer-of c (r .0) .ledger) ⊎ (recoverer-of c (r .0) .layout ≡ ledger-of c (recoverer-of c (r .0) .ledger .0) .layout)
   -- a ledger in recovery is left at that version until it is closed
   pub ends : (h₁ : History) (c₁ : Cluster) (l : LedgerId) → Reached h₁ c₁ → Runs h₁ c₁ h c → ledger-of c₁ (l .0) .state ≡ InRecovery
-    → IsClosed c l ⊎ ((ledger-of c (l .0) .state ≡ InRecovery) × (ledger-of c (l .0) .version .0 ≡ ledger-of c₁ (l .0) .version .0))
+      → IsClosed c l ⊎ ((ledger-of c (l .0) .state ≡ InRecovery) × (ledger-of c (l .0) .version .0 ≡ ledger-of c₁ (l .0) .version .0))
   -- a closed ledger is closed for ever, and at the same entry
   pub stays : (h₁ : History) (c₁ : Cluster) (l : LedgerId) → Reached h₁ c₁ → Runs h₁ c₁ h c → IsClosed c₁ l
-    → IsClosed c l × (ledger-of c (l .0) .closing .0 ≡ ledger-of c₁ (l .0) .closing .0)
+      → IsClosed c l × (ledger-of c (l .0) .closing .0 ≡ ledger-of c₁ (l .0) .closing .0)
   -- an ended recoverer that finds another version than its own has lost the race: the ledger is closed, and where the
   -- finish is accepted it answers the closing entry
   pub late : (r : RecovererId) → is-ended (recoverer-of c (r .0) .phase) ≡ true
-    → (ledger-of c (recoverer-of c (r .0) .ledger .0) .version .0 ≡ recoverer-of c (r .0) .version .0 → ⊥)
-    → IsClosed c (recoverer-of c (r .0) .ledger) × (finish c r .answer ≡ answer.ClosingEntry (ledger-of c (recoverer-of c (r .0) .ledger .0) .closing))
+      → (ledger-of c (recoverer-of c (r .0) .ledger .0) .version .0 ≡ recoverer-of c (r .0) .version .0 → ⊥)
+      → IsClosed c (recoverer-of c (r .0) .ledger) × (finish c r .answer ≡ answer.ClosingEntry (ledger-of c (recoverer-of c (r .0) .ledger .0) .closing))
 
 abbrev pub RoundsLaw : Type 0
 RoundsLaw = (h : History) (c : Cluster) → Reached h c → Rounds h c

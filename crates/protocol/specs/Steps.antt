@@ -86,7 +86,7 @@ create-sized c l bs None = refuse c (fault.Client client.Ensemble)
 create-sized c l bs (Some s) =
     ask c (eqb (length (listed bs)) (s .ensemble) && distinct (listed bs)) (fault.Client client.Ensemble)
     (by-client c (by-store (create-answer (c .store) l))
-      (created c l (first-layout s (bs .numbers)) (create-after (c .store) l (first-layout s (bs .numbers)))))
+    (created c l (first-layout s (bs .numbers)) (create-after (c .store) l (first-layout s (bs .numbers)))))
 
 -- how many of the bookies exist, up to the first that does not
 abbrev pub existing : Cluster → BookieList → ℕ
@@ -103,8 +103,8 @@ abbrev pub append : Cluster → LedgerId → Body → Outcome
 append c l body =
     ask c (is-made (writer-of c (l .0) .state)) (fault.Missing 1)
     (by-client c (append-answer (writer-of c (l .0)))
-      (λ e. done (answer.Entry e)
-        (send (with-writer c (l .0) (appended (writer-of c (l .0)) body)) (append-sends (writer-of c (l .0)) l body))))
+    (λ e. done (answer.Entry e)
+    (send (with-writer c (l .0) (appended (writer-of c (l .0)) body)) (append-sends (writer-of c (l .0)) l body))))
 
 abbrev pub resend : Cluster → LedgerId → Outcome
 resend c l =
@@ -146,7 +146,7 @@ recover c r l =
     (ask c (exists (c .store) (l .0)) (fault.Missing 2)
     (ask c (not (at-work (recoverer-of c (r .0) .phase))) fault.Taken
     (by-client c (recover-answer (c .store) l)
-      (λ v. begun (with-store c (recover-store (c .store) l)) r (new-recoverer l v (ledger-of c (l .0) .layout))))))
+    (λ v. begun (with-store c (recover-store (c .store) l)) r (new-recoverer l v (ledger-of c (l .0) .layout))))))
 
 abbrev pub ask-again : Cluster → RecovererId → Outcome
 ask-again c r =
@@ -157,8 +157,8 @@ abbrev pub finish : Cluster → RecovererId → Outcome
 finish c r =
     ask c (at-work (recoverer-of c (r .0) .phase)) (fault.Missing 1)
     (by-client c (finish-answer (recoverer-of c (r .0)) (c .store))
-      (λ n. done (answer.ClosingEntry n)
-        (with-recoverer (with-store c (finish-store (recoverer-of c (r .0)) (c .store))) (r .0) no-recoverer)))
+    (λ n. done (answer.ClosingEntry n)
+    (with-recoverer (with-store c (finish-store (recoverer-of c (r .0)) (c .store))) (r .0) no-recoverer)))
 
 -- delivery -----------------------------------------------------------------------------------------------------------
 -- a request to a stopped bookie is lost, and any other refusal goes back
@@ -213,18 +213,18 @@ abbrev pub act : Cluster → Message → Outcome
 act c (Add l b e n body) =
     done (served (add-answer (bookie-of c (b .0)) l e n body false))
     (send (with-bookie c (b .0) (add-after (bookie-of c (b .0)) l e n body false))
-      (add-reply l b e (add-answer (bookie-of c (b .0)) l e n body false)))
+    (add-reply l b e (add-answer (bookie-of c (b .0)) l e n body false)))
 act c (RecoveryAdd r l b e n body) =
     done (served (add-answer (bookie-of c (b .0)) l e n body true))
     (send (with-bookie c (b .0) (add-after (bookie-of c (b .0)) l e n body true))
-      (recovery-add-reply r l b e (add-answer (bookie-of c (b .0)) l e n body true)))
+    (recovery-add-reply r l b e (add-answer (bookie-of c (b .0)) l e n body true)))
 act c (Fence r l b) =
     done (served (fence-answer (bookie-of c (b .0)) l))
     (send (with-bookie c (b .0) (fence-after (bookie-of c (b .0)) l)) (fence-reply r l b (fence-answer (bookie-of c (b .0)) l)))
 act c (RecoveryRead r l b e) =
     done (served (recovery-read-answer (bookie-of c (b .0)) l e))
     (send (with-bookie c (b .0) (recovery-read-after (bookie-of c (b .0)) l e))
-      (read-reply r l b e (recovery-read-answer (bookie-of c (b .0)) l e)))
+    (read-reply r l b e (recovery-read-answer (bookie-of c (b .0)) l e)))
 act c (Added l b e) = to-writer c l b e (Ok tt)
 act c (AddRefused l b e f) = to-writer c l b e (Err f)
 act c (Fenced r l b n) = to-recoverer c r (Fenced r l b n)

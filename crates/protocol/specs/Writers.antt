@@ -190,7 +190,7 @@ abbrev pub change-answer : Writer → Store → LedgerId → Position → Bookie
 change-answer w s l p b =
     question (change-fits (w .layout) (p .0) (b .0)) fault.Ensemble
     (if-writing w (question (room-for (w .layout) (w .lac)) fault.Fragments
-      (by-put (entry-id (w .lac)) (put-answer s l (version-id (w .version))))))
+    (by-put (entry-id (w .lac)) (put-answer s l (version-id (w .version))))))
 
 abbrev pub change-store : Writer → Store → LedgerId → Position → BookieId → Store
 change-store w s l p b = put-after s l (version-id (w .version)) Open (new-layout w p b) (lac-id 0)
@@ -201,12 +201,13 @@ unmarked p a = record { body = a .body; marks = set (a .marks) p false }
 
 abbrev pub changed-writer : Writer → Position → BookieId → Writer
 changed-writer w p b =
-    record
-      { state = w .state
-      ; layout = new-layout w p b
-      ; version = suc (w .version)
-      ; lac = w .lac
-      ; pending = map (unmarked (p .0)) (w .pending) }
+    record {
+      state = w .state;
+      layout = new-layout w p b;
+      version = suc (w .version);
+      lac = w .lac;
+      pending = map (unmarked (p .0)) (w .pending);
+    }
 
 -- adds, with LAC n, to bookie b for each pending entry whose write set has position q; the first of them is e
 abbrev pub adds-at : Layout → LedgerId → ℕ → ℕ → BookieId → ℕ → List PendingAdd → List Message
@@ -222,7 +223,7 @@ change-sends w l p b = adds-at (new-layout w p b) l (w .lac) (p .0) b (w .lac) (
 abbrev pub close-answer : Writer → Store → LedgerId → Result (Option Lac) ClientFault
 close-answer w s l =
     if-writing w (question (eqb (length (w .pending)) 0) fault.Pending
-      (by-put (lac-id (w .lac)) (put-answer s l (version-id (w .version)))))
+    (by-put (lac-id (w .lac)) (put-answer s l (version-id (w .version)))))
 
 abbrev pub close-store : Writer → Store → LedgerId → Store
 close-store w s l = put-after s l (version-id (w .version)) Closed (w .layout) (lac-id (w .lac))

@@ -10,7 +10,11 @@ impl Sizes {
         ensures { λ r. ⌜ r ≡ made-sizes ensemble write ack ⌝ }
     {
         if ensemble as usize <= MAX_ENSEMBLE && write <= ensemble && ack <= write && 1 <= ack {
-            Some(Sizes { ensemble, write, ack })
+            Some(Sizes {
+                ensemble,
+                write,
+                ack,
+            })
         } else {
             None
         }
