@@ -190,7 +190,7 @@ resend-quiet c l =
     ask-cases c (Quiet c) (is-made (writer-of c (l .0) .state)) (fault.Missing 1) _ refl
     (λ _. client-cases c (Quiet c) (resend-answer (writer-of c (l .0))) _ (λ f. refl) (λ e. refl))
 
-changed-quiet : (c : Cluster) (l : LedgerId) (p : Position) (b : BookieId) (s : Store) (o : Option EntryId) → Quiet c (changed c l p b s o)
+changed-quiet : (c : Cluster) (l : LedgerId) (p : Position) (b : BookieId) (s : Store) (o : Option EntryId) → Quiet c (changed c l (writer-of c (l .0)) p b s o)
 changed-quiet c l p b s None = refl
 changed-quiet c l p b s (Some e) = refl
 
@@ -201,7 +201,7 @@ change-quiet c l p b =
     (λ _. client-cases c (Quiet c) (change-answer (writer-of c (l .0)) (c .store) l p b) _ (λ f. refl)
     (changed-quiet c l p b (change-store (writer-of c (l .0)) (c .store) l p b))))
 
-closed-quiet : (c : Cluster) (l : LedgerId) (s : Store) (o : Option Lac) → Quiet c (closed c l s o)
+closed-quiet : (c : Cluster) (l : LedgerId) (s : Store) (o : Option Lac) → Quiet c (closed c l (writer-of c (l .0)) s o)
 closed-quiet c l s None = refl
 closed-quiet c l s (Some n) = refl
 
