@@ -1,6 +1,6 @@
 -- One lemma for each kind of change of a cluster: the world after it is later, and the invariant is kept.
 use mathlib.Core.Path.{_≡_, refl, sym, _∙_, ap, subst}
-use mathlib.Core.Bool.{Bool, true, false}
+use mathlib.Core.Bool.{Bool, true}
 use mathlib.Core.List.{List}
 use mathlib.Core.Logic.{inl, inr}
 use Prim.Native.Nat.{ℕ, _≤_}
@@ -13,13 +13,12 @@ use Rattle.ledgers.specs.Tables.{row}
 use Rattle.ledgers.specs.declared.bodies.Body.{Body}
 use Rattle.messages.specs.Waiting.{sent}
 use Rattle.messages.specs.declared.messages.Message.{Message}
-use Rattle.messages.specs.declared.metadata.LedgerState.{LedgerState}
-use Rattle.messages.specs.declared.metadata.LedgerState.the-variants.{Open, InRecovery, Closed}
+use Rattle.messages.specs.declared.metadata.LedgerState.the-variants.{Open, Closed}
 use Rattle.messages.specs.declared.metadata.Metadata.{Metadata}
 use Rattle.protocol.specs.Bookies.{Bookie, no-bookie, holds, is-fenced}
 use Rattle.protocol.specs.Stores.{known, metadata-of, written}
 use Rattle.protocol.specs.Writers.{Writer, no-writer}
-use Rattle.protocol.specs.Recoverers.{no-recoverer}
+use Rattle.protocol.specs.Recoverers.{no-recoverer, is-open}
 use Rattle.protocol.specs.Clusters.{Cluster, bookie-of, writer-of, ledger-of, with-bookie, with-store, with-writer, with-recoverer, send}
 use Rattle.protocol.specs.declared.recoverers.Recoverer.{Recoverer}
 use Rattle.protocol.proofs.Lists.{at-set, set-rel, HasRow, at-number, at-number-in, number-rel, all-sent}
@@ -179,14 +178,9 @@ pub record Succeeds (m m′ : Metadata) : Type 0 where
 pub succeeds-same : (m : Metadata) → Succeeds m m
 succeeds-same m = record { stays = λ h. h; under = λ v h. h; closed = λ h. (h, refl) }
 
-abbrev open-code : LedgerState → Bool
-open-code Open = true
-open-code InRecovery = false
-open-code Closed = false
-
 pub open-shut : (m : Metadata) → m .state ≡ Open → Shut m → ⊥
-open-shut m o (inl k) = true≢false (ap open-code (sym o ∙ k))
-open-shut m o (inr k) = true≢false (ap open-code (sym o ∙ k))
+open-shut m o (inl k) = true≢false (ap is-open (sym o ∙ k))
+open-shut m o (inr k) = true≢false (ap is-open (sym o ∙ k))
 
 -- anything may follow an open ledger's metadata
 pub open-succeeds : (m m′ : Metadata) → m .state ≡ Open → Succeeds m m′

@@ -11,3 +11,4 @@ pub mod WriterSteps
 pub mod RecovererSteps
 pub mod Runs
 pub mod Words
+pub mod Rounds

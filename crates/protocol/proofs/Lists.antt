@@ -11,7 +11,7 @@ use lib.ListN.{length, getD, set, take, drop, replicate}
 use Rattle.std.specs.shelf.Lists.{All}
 use Rattle.std.proofs.shelf.Elements.{all-append, all-push, all-take, all-drop}
 use Rattle.std.proofs.shelf.Lists.{getD-past, set-past}
-use Rattle.std.proofs.shelf.Tests.{and-parts, true≢false, false≢true, cond-both, cond-false, eqb-true, ne-eqb, leb-true, cases-lt}
+use Rattle.std.proofs.shelf.Tests.{and-parts, true≢false, false≢true, cond-both, cond-false, eqb-true, ne-eqb, leb-true, cases-eq, cases-lt}
 use Rattle.ledgers.specs.Limits.{max-ledgers, is-ledger}
 use Rattle.ledgers.specs.Tables.{row, numbered, renumbered}
 use Rattle.layout.specs.WriteSets.{write-set, tally, marked, no-marks, mark}
@@ -113,6 +113,16 @@ row-or-blank xs zero d = inr (no-row xs d)
 row-or-blank xs (suc i) d =
     elim (cases-lt i (length xs))
     [ inl z ↦ inl (omega arith, z) | inr z ↦ inr (subst (λ (k : ℕ). getD xs k d ≡ d) (sym (row-suc xs i)) (getD-past xs i d z)) ]
+
+-- what holds of the blank, of the new row and of every other holds of each after one row was set
+pub at-number-blank : {A : Type 0} (P : A → Type 0) (xs : List A) (i j : ℕ) (a d : A) → P d → (j ≡ i → P a)
+    → ((j ≡ i → ⊥) → P (numbered xs j d)) → P (numbered (renumbered xs i a) j d)
+at-number-blank P xs i j a d blank f g =
+    elim (row-or-blank xs i d) [
+      | inl z ↦ at-number-in P xs i j a d z f g
+      | inr z ↦ at-number P xs i j a d f
+          (elim (cases-eq j i) [ inl q ↦ subst (λ (k : ℕ). P (numbered xs k d)) (sym q) (subst P (sym z) blank) | inr ne ↦ g ne ])
+    ]
 
 -- a ledger that there can be has a row in a table of all
 pub ledger-row : {A : Type 0} (xs : List A) (l : ℕ) → length xs ≡ max-ledgers → is-ledger l ≡ true → HasRow xs l

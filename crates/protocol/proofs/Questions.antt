@@ -21,10 +21,11 @@ use Rattle.messages.specs.declared.metadata.LedgerState.the-variants.{Open}
 use Rattle.protocol.specs.Stores.{Store, metadata-of, exists, written, create-answer, create-after, put-answer, put-after, is-version}
 use Rattle.protocol.specs.Writers.{Writer, is-shut-out, is-closed, if-writing}
 use Rattle.protocol.specs.Clusters.{Cluster}
-use Rattle.protocol.specs.Steps.{Outcome, refuse, ask}
+use Rattle.protocol.specs.Steps.{Outcome, refuse, ask, by-client}
 use Rattle.protocol.specs.declared.faults.ClientFault.{ClientFault}
 use Rattle.protocol.specs.declared.faults.ClientFault.the-variants as client
 use Rattle.protocol.specs.declared.faults.StepFault.{StepFault}
+use Rattle.protocol.specs.declared.faults.StepFault.the-variants as fault
 
 -- a good answer and a refusal are never equal
 pub ok-not-err : {A F P : Type 0} (f : F) (a : A) → Err f ≡ Ok a → P
@@ -97,3 +98,8 @@ writing-asked w r P bad good =
 pub ask-cases : (c : Cluster) (P : Outcome → Type 0) (q : Bool) (f : StepFault) (o : Outcome) → P (refuse c f) → (q ≡ true → P o) → P (ask c q f o)
 ask-cases c P true f o bad good = good refl
 ask-cases c P false f o bad good = bad
+
+pub client-cases : {A : Type 0} (c : Cluster) (P : Outcome → Type 0) (r : Result A ClientFault) (k : A → Outcome) → ((f : StepFault) → P (refuse c f)) → ((a : A) → P (k a))
+    → P (by-client c r k)
+client-cases c P (Ok a) k bad good = good a
+client-cases c P (Err f) k bad good = bad (fault.Client f)

@@ -1,6 +1,6 @@
 -- The recoverer's steps: begin, ask again and finish.
 use mathlib.Core.Path.{_≡_, refl, sym, _∙_, ap, subst}
-use mathlib.Core.Bool.{Bool, true, false, not}
+use mathlib.Core.Bool.{true, not}
 use mathlib.Core.List.{List}
 use mathlib.Core.Logic.{inl, inr}
 use Prim.Native.Nat.{ℕ, suc, _<_}
@@ -24,7 +24,7 @@ use Rattle.messages.specs.declared.metadata.LedgerState.{LedgerState}
 use Rattle.messages.specs.declared.metadata.LedgerState.the-variants.{Open, InRecovery, Closed}
 use Rattle.messages.specs.declared.metadata.Metadata.{Metadata}
 use Rattle.protocol.specs.Stores.{exists, written}
-use Rattle.protocol.specs.Recoverers.{at-work, is-ended, no-recoverer, by-store, begin-answer, begin-store, recover-with, recover-store, new-recoverer, asks, finished, finish-store}
+use Rattle.protocol.specs.Recoverers.{at-work, is-ended, no-recoverer, by-store, is-over, begin-answer, begin-store, recover-with, recover-store, new-recoverer, asks, finished, finish-store}
 use Rattle.protocol.specs.Clusters.{Cluster, writer-of, recoverer-of, ledger-of, with-store, with-recoverer}
 use Rattle.protocol.specs.Steps.{Outcome, done, by-client, begun, recover, ask-again, finish}
 use Rattle.protocol.specs.declared.answers.Answer.the-variants as answer
@@ -113,17 +113,12 @@ recover-keeps {x₀} ns c r l i =
     by Closed o q30 = i
 
 -- finish -------------------------------------------------------------------------------------------------------------
-ended-is : (ph : Phase) → is-ended ph ≡ true → ph ≡ Ended
+pub ended-is : (ph : Phase) → is-ended ph ≡ true → ph ≡ Ended
 ended-is Idle h = absurd (false≢true h)
 ended-is (Fencing m) h = absurd (false≢true h)
 ended-is (Reading m) h = absurd (false≢true h)
 ended-is (Writing m) h = absurd (false≢true h)
 ended-is Ended h = refl
-
-abbrev closed-code : LedgerState → Bool
-closed-code Open = false
-closed-code InRecovery = false
-closed-code Closed = true
 
 idle-inv : {x₀ : World} (ns : List Note) (c : Cluster) (r : ℕ) → InvAt x₀ ns c → InvAt x₀ ns (with-recoverer c r no-recoverer)
 idle-inv ns c r i = recoverer-inv ns c r no-recoverer i (λ h. absurd (false≢true h))
@@ -167,7 +162,7 @@ finish-keeps {x₀} ns c r i =
         }) i
       where
         not-closed : Under m (R .version .0) → m .state ≡ Closed → ⊥
-        not-closed (inl z) y = true≢false (ap closed-code (sym y ∙ z .0))
+        not-closed (inl z) y = true≢false (ap is-over (sym y ∙ z .0))
         not-closed (inr z) y = let u = z .1 in omega arith
 
         lower : Under m (R .version .0) → writer-of c (R .ledger .0) .version < suc (R .version .0)

@@ -162,9 +162,9 @@ closed-known c l v y n sized q =
 close-says : {x₀ : World} (ns : List Note) (c : Cluster) (l : LedgerId) → InvAt x₀ ns c → Says l (close c l)
 close-says ns c l i =
     ask-cases c (Says l) (is-made (w .state)) (fault.Missing 1) _ refusing
-    (λ _. writing-asked w _ (λ r. Says l (by-client c r (closed c l (close-store w (c .store) l)))) (λ f. refusing)
-    (λ _ _. asked (eqb (length (w .pending)) 0) client.Pending _ (λ r. Says l (by-client c r (closed c l (close-store w (c .store) l)))) refusing
-    (λ _. put-cases (c .store) l (λ r s. Says l (by-client c (by-put (lac-id (w .lac)) r) (closed c l s))) (version-id (w .version)) Closed (w .layout) (lac-id (w .lac))
+    (λ _. writing-asked w _ (λ r. Says l (by-client c r (closed c l w (close-store w (c .store) l)))) (λ f. refusing)
+    (λ _ _. asked (eqb (length (w .pending)) 0) client.Pending _ (λ r. Says l (by-client c r (closed c l w (close-store w (c .store) l)))) refusing
+    (λ _. put-cases (c .store) l (λ r s. Says l (by-client c (by-put (lac-id (w .lac)) r) (closed c l w s))) (version-id (w .version)) Closed (w .layout) (lac-id (w .lac))
     (λ f q. rw q refusing) (λ _ _ lost. absurd (lost refl)) (λ q30 _ _ _. closed-known c l (version-id (suc (w .version))) (w .layout) (lac-id (w .lac)) (i .ledgers) q30))))
   where
     w : Writer

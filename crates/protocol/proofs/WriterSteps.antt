@@ -243,8 +243,8 @@ resend-keeps {x₀} ns c l i =
 
 -- puts of a writer ---------------------------------------------------------------------------------------------------
 -- metadata at the version of a writer that has not closed is open
-is-open : (x : World) (l : ℕ) (w : Writer) (m : Metadata) → is-closed (w .state) ≡ false → m .version .0 ≡ w .version → LedgerOk x l w m → m .state ≡ Open
-is-open x l w m o v h = by (m .state) refl (h .state)
+open-at-version : (x : World) (l : ℕ) (w : Writer) (m : Metadata) → is-closed (w .state) ≡ false → m .version .0 ≡ w .version → LedgerOk x l w m → m .state ≡ Open
+open-at-version x l w m o v h = by (m .state) refl (h .state)
   where
     by : (st : LedgerState) → m .state ≡ st → StateOk x l w m st → m .state ≡ Open
     by Open q k = q
@@ -254,7 +254,7 @@ is-open x l w m o v h = by (m .state) refl (h .state)
 
 -- a writer that finds another version loses its ledger
 lose-inv : {x₀ : World} (ns : List Note) (c : Cluster) (l : LedgerId) → is-made (writer-of c (l .0) .state) ≡ true → is-closed (writer-of c (l .0) .state) ≡ false
-    → InvAt x₀ ns c → InvAt x₀ ns (lose c l .next)
+    → InvAt x₀ ns c → InvAt x₀ ns (lose c l (writer-of c (l .0)) .next)
 lose-inv ns c l made o i =
     writer-inv ns c (l .0) (fenced-writer (writer-of c (l .0))) i
     (fenced-becomes (world ns c) (l .0) (writer-of c (l .0)) (ledger-of c (l .0)) made o (i .writing (l .0)) (i .metadata (l .0)))
@@ -263,9 +263,9 @@ lose-inv ns c l made o i =
 pub close-keeps : {x₀ : World} (ns : List Note) (c : Cluster) (l : LedgerId) → InvAt x₀ ns c → Keeps x₀ ns c (Close l) (close c l)
 close-keeps {x₀} ns c l i =
     ask-cases c K (is-made (w .state)) (fault.Missing 1) _ i
-    (λ q4. writing-asked w _ (λ r. K (by-client c r (closed c l (close-store w (c .store) l)))) (λ f. i)
-    (λ _ q8. asked (eqb (length (w .pending)) 0) client.Pending _ (λ r. K (by-client c r (closed c l (close-store w (c .store) l)))) i
-    (λ _. put-cases (c .store) l (λ r s. K (by-client c (by-put (lac-id (w .lac)) r) (closed c l s))) (version-id (w .version)) Closed (w .layout) (lac-id (w .lac))
+    (λ q4. writing-asked w _ (λ r. K (by-client c r (closed c l w (close-store w (c .store) l)))) (λ f. i)
+    (λ _ q8. asked (eqb (length (w .pending)) 0) client.Pending _ (λ r. K (by-client c r (closed c l w (close-store w (c .store) l)))) i
+    (λ _. put-cases (c .store) l (λ r s. K (by-client c (by-put (lac-id (w .lac)) r) (closed c l w s))) (version-id (w .version)) Closed (w .layout) (lac-id (w .lac))
     (λ f q. rw q i) (λ _. lose-inv ns c l q4 q8 i) (close-it q4 q8))))
   where
     K : Outcome → Type 0
@@ -284,7 +284,7 @@ close-keeps {x₀} ns c l i =
         puts-inv ns c (l .0) (closed-writer w) m′ (ledger-row (c .writers) (l .0) (i .writers) q30) (ledger-row (c .store .ledgers) (l .0) (i .ledgers) q30)
         (record {
           lac = omega arith;
-          was-open = is-open (world ns c) (l .0) w (ledger-of c (l .0)) o v (i .metadata (l .0));
+          was-open = open-at-version (world ns c) (l .0) w (ledger-of c (l .0)) o v (i .metadata (l .0));
           writer =
               record {
                 upto = old .upto;
@@ -439,7 +439,7 @@ change-keeps {x₀} ns c l p b i =
     ask-cases c K (is-made (w .state)) (fault.Missing 1) _ i (λ q4. ask-cases c K (ltb (b .0) (length (c .bookies))) (fault.Missing 3) _ i
     (λ _. asked (change-fits (w .layout) (p .0) (b .0)) client.Ensemble _ K′ i
     (λ q6. writing-asked w _ K′ (λ f. i) (λ q7 q8. asked (room-for (w .layout) (w .lac)) client.Fragments _ K′ i
-    (λ q12. put-cases (c .store) l (λ r s. K (by-client c (by-put (entry-id (w .lac)) r) (changed c l p b s))) (version-id (w .version)) Open y (lac-id 0)
+    (λ q12. put-cases (c .store) l (λ r s. K (by-client c (by-put (entry-id (w .lac)) r) (changed c l w p b s))) (version-id (w .version)) Open y (lac-id 0)
     (λ f q. rw q i) (λ _. lose-inv ns c l q4 q8 i)
     (change-it q12 (and-parts (not (member (b .0) (take (w .layout .sizes .ensemble) (last-fragment (w .layout) .bookies)))) (ltb (p .0) (w .layout .sizes .ensemble)) q6 .0) q7 q8))))))
   where
@@ -453,7 +453,7 @@ change-keeps {x₀} ns c l p b i =
     y = new-layout w p b
 
     K′ : Result (Option EntryId) ClientFault → Type 0
-    K′ r = K (by-client c r (changed c l p b (change-store (writer-of c (l .0)) (c .store) l p b)))
+    K′ r = K (by-client c r (changed c l w p b (change-store w (c .store) l p b)))
 
     m′ : Metadata
     m′ = record { version = version-id (suc (w .version)); state = Open; layout = y; closing = lac-id 0 }
@@ -489,7 +489,7 @@ change-keeps {x₀} ns c l p b i =
         h =
             record {
               lac = omega arith;
-              was-open = is-open (world ns c) (l .0) w (ledger-of c (l .0)) o v (i .metadata (l .0));
+              was-open = open-at-version (world ns c) (l .0) w (ledger-of c (l .0)) o v (i .metadata (l .0));
               writer =
                   record {
                     upto = old .upto;

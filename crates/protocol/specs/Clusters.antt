@@ -1,10 +1,13 @@
 -- The cluster: bookies by number, the store, the writers of sixteen ledgers, four recoverers, and the messages that wait.
-use Prim.Native.Nat.{ℕ}
 use mathlib.Core.List.{List, [], map}
+use Prim.Native.Nat.{ℕ}
 use lib.ListN.{getD, set, replicate}
 use Rattle.std.specs.declared.option.Option.the-variants.{None}
 use Rattle.ledgers.specs.Limits.{max-ledgers, max-recoverers}
 use Rattle.ledgers.specs.Tables.{numbered, renumbered}
+use Rattle.ledgers.specs.declared.ids.LedgerId.{LedgerId}
+use Rattle.ledgers.specs.declared.ids.RecovererId.{RecovererId}
+use Rattle.layout.specs.declared.fragments.Layout.{Layout}
 use Rattle.messages.specs.Waiting.{Queue, sent}
 use Rattle.messages.specs.declared.messages.Message.{Message}
 use Rattle.messages.specs.declared.metadata.Metadata.{Metadata}
@@ -12,6 +15,7 @@ use Rattle.protocol.specs.Bookies.{Bookie, new-bookie, no-bookie}
 use Rattle.protocol.specs.Stores.{Store, metadata-of}
 use Rattle.protocol.specs.Writers.{Writer, no-writer}
 use Rattle.protocol.specs.Recoverers.{no-recoverer}
+use Rattle.protocol.specs.declared.recoverers.Phase.{Phase}
 use Rattle.protocol.specs.declared.recoverers.Recoverer.{Recoverer}
 
 pub record Cluster : Type 0 where
@@ -41,6 +45,17 @@ writer-of c l = numbered (c .writers) l no-writer
 abbrev pub recoverer-of : Cluster → ℕ → Recoverer
 recoverer-of c r = numbered (c .recoverers) r no-recoverer
 
+-- the phase of a recoverer, the ledger that it is at, and the layout that it has read
+abbrev pub phase-of : Cluster → RecovererId → Phase
+phase-of c r = recoverer-of c (r .0) .phase
+
+abbrev pub recovering : Cluster → RecovererId → LedgerId
+recovering c r = recoverer-of c (r .0) .ledger
+
+abbrev pub layout-read : Cluster → RecovererId → Layout
+layout-read c r = recoverer-of c (r .0) .layout
+
+-- what the store keeps of ledger l
 abbrev pub ledger-of : Cluster → ℕ → Metadata
 ledger-of c l = metadata-of (c .store) l
 

@@ -20,13 +20,12 @@ use Rattle.layout.specs.Layouts.{last-fragment}
 use Rattle.messages.specs.declared.faults.BookieFault.{BookieFault}
 use Rattle.messages.specs.declared.messages.Message.{Message}
 use Rattle.messages.specs.declared.messages.Message.the-variants.{Added, AddRefused, Fenced}
-use Rattle.protocol.specs.Answers.{is-accepted}
 use Rattle.protocol.specs.Recoverers.{at-work}
-use Rattle.protocol.specs.Clusters.{Cluster, empty, recoverer-of}
-use Rattle.protocol.specs.Steps.{step, message-at}
+use Rattle.protocol.specs.Clusters.{Cluster, empty, phase-of, recovering, layout-read}
+use Rattle.protocol.specs.Answers.{is-accepted}
+use Rattle.protocol.specs.Steps.{message-at, step}
 use Rattle.protocol.specs.declared.answers.Answer.{Answer}
 use Rattle.protocol.specs.declared.answers.Answer.the-variants as answer
-use Rattle.protocol.specs.declared.recoverers.Recoverer.{Recoverer}
 
 -- a step, the cluster before it and what it answered
 pub record Event : Type 0 where
@@ -81,7 +80,7 @@ Confirmed h l e =
 -- closed -------------------------------------------------------------------------------------------------------------
 -- the event asked to close ledger l, for its writer or for the recoverer that was at it
 abbrev pub Closes : LedgerId → Event → Type 0
-Closes l v = (v .did ≡ Close l) ⊎ ((r : RecovererId) × (v .did ≡ Finish r) × (recoverer-of (v .before) (r .0) .ledger ≡ l))
+Closes l v = (v .did ≡ Close l) ⊎ ((r : RecovererId) × (v .did ≡ Finish r) × (recovering (v .before) r ≡ l))
 
 -- and was accepted with answer a, which is not that the writer lost its ledger
 abbrev pub ClosedWith : LedgerId → Answer → Event → Type 0
@@ -100,6 +99,6 @@ Answered (v ∷ h) r l b = ((n : Lac) × Delivered v (Fenced r l b n)) ⊎ ((Sta
 -- recoverer r is at work on ledger l, and fence answers of positions that cover the ensemble were delivered to it
 abbrev pub Covered : History → Cluster → RecovererId → LedgerId → Type 0
 Covered h c r l =
-    (at-work (recoverer-of c (r .0) .phase) ≡ true) × (recoverer-of c (r .0) .ledger ≡ l)
-    × (t : ℕ → Bool) × (covers (recoverer-of c (r .0) .layout .sizes) t ≡ true)
-    × ((p : ℕ) → t p ≡ true → Answered h r l (bookie-id (getD (last-fragment (recoverer-of c (r .0) .layout) .bookies) p 0)))
+    (at-work (phase-of c r) ≡ true) × (recovering c r ≡ l)
+    × (t : ℕ → Bool) × (covers (layout-read c r .sizes) t ≡ true)
+    × ((p : ℕ) → t p ≡ true → Answered h r l (bookie-id (getD (last-fragment (layout-read c r) .bookies) p 0)))

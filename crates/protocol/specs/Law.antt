@@ -2,20 +2,22 @@
 use mathlib.Core.Path.{_≡_}
 use mathlib.Core.Bool.{Bool, true, false}
 use mathlib.Core.Logic.{_⊎_}
-use Prim.Native.Nat.{ℕ, _<_, _≤_}
+use Prim.Native.Nat.{ℕ, _≤_, _<_}
 use Rattle.std.specs.shelf.Lists.{All}
-use Rattle.ledgers.specs.Ids.{lac-id}
 use Rattle.ledgers.specs.declared.bodies.Body.{Body}
 use Rattle.ledgers.specs.declared.ids.EntryId.{EntryId}
+use Rattle.ledgers.specs.declared.ids.Lac.{Lac}
 use Rattle.ledgers.specs.declared.ids.LedgerId.{LedgerId}
 use Rattle.ledgers.specs.declared.ids.RecovererId.{RecovererId}
+use Rattle.ledgers.specs.declared.ids.Version.{Version}
 use Rattle.layout.specs.WriteSets.{tally, distinct}
 use Rattle.layout.specs.Layouts.{bookies-of}
+use Rattle.layout.specs.declared.fragments.Layout.{Layout}
 use Rattle.messages.specs.declared.entries.Held.{Held}
 use Rattle.messages.specs.declared.metadata.LedgerState.the-variants.{InRecovery, Closed}
 use Rattle.protocol.specs.Bookies.{holds}
 use Rattle.protocol.specs.Recoverers.{at-work, is-ended}
-use Rattle.protocol.specs.Clusters.{Cluster, bookie-of, recoverer-of, ledger-of}
+use Rattle.protocol.specs.Clusters.{Cluster, bookie-of, recoverer-of, phase-of, recovering, layout-read, ledger-of}
 use Rattle.protocol.specs.Steps.{finish}
 use Rattle.protocol.specs.Histories.{History, Runs, Reached, Once, Appended, Confirmed, ClosedWith, Covered}
 use Rattle.protocol.specs.declared.answers.Answer.{Answer}
@@ -27,15 +29,24 @@ use Rattle.protocol.specs.declared.recoverers.Phase.the-variants.{Idle, Fencin
 abbrev pub IsClosed : Cluster → LedgerId → Type 0
 IsClosed c l = ledger-of c (l .0) .state ≡ Closed
 
+abbrev pub closing-of : Cluster → LedgerId → Lac
+closing-of c l = ledger-of c (l .0) .closing
+
+abbrev pub layout-of : Cluster → LedgerId → Layout
+layout-of c l = ledger-of c (l .0) .layout
+
+abbrev pub version-of : Cluster → LedgerId → Version
+version-of c l = ledger-of c (l .0) .version
+
 -- entry e is at or before the closing entry
 abbrev pub UpToClose : Cluster → LedgerId → EntryId → Type 0
-UpToClose c l e = e .0 < ledger-of c (l .0) .closing .0
+UpToClose c l e = e .0 < closing-of c l .0
 
 -- the bookies of the write set of entry e are different ones, and at least an ack quorum of them hold it
 abbrev pub AckQuorumHolds : Cluster → LedgerId → EntryId → Type 0
 AckQuorumHolds c l e =
-    (distinct (bookies-of (ledger-of c (l .0) .layout) (e .0)) ≡ true)
-    × (ledger-of c (l .0) .layout .sizes .ack ≤ tally (λ b. holds (bookie-of c b) (l .0) (e .0)) (bookies-of (ledger-of c (l .0) .layout) (e .0)))
+    (distinct (bookies-of (layout-of c l) (e .0)) ≡ true)
+    × (layout-of c l .sizes .ack ≤ tally (λ b. holds (bookie-of c b) (l .0) (e .0)) (bookies-of (layout-of c l) (e .0)))
 
 -- an append gave the entry this content, and none gave it another
 abbrev pub TrueCopy : History → Held → Type 0
@@ -46,7 +57,7 @@ pub record Word (h : History) (c : Cluster) : Type 0 where
   -- every entry of a closed ledger that its writer confirms, before the close or after, is at or before the closing entry
   pub confirmed : (l : LedgerId) (e : EntryId) → IsClosed c l → Confirmed h l e → UpToClose c l e
   -- wherever a close or a finish was accepted, the ledger is closed at the entry answered, and has stayed so until now
-  pub closed : (l : LedgerId) (a : Answer) → Once (ClosedWith l a) h → IsClosed c l × (a ≡ answer.ClosingEntry (ledger-of c (l .0) .closing))
+  pub closed : (l : LedgerId) (a : Answer) → Once (ClosedWith l a) h → IsClosed c l × (a ≡ answer.ClosingEntry (closing-of c l))
   -- each entry up to the closing entry is held by an ack quorum of different bookies of its write set
   pub kept : (l : LedgerId) (e : EntryId) → IsClosed c l → UpToClose c l e → AckQuorumHolds c l e
   -- every copy in any bookie is true
@@ -70,21 +81,20 @@ past-fences Ended = true
 -- a recovery goes by its rounds
 pub record Rounds (h : History) (c : Cluster) : Type 0 where
   -- a recoverer leaves its fence round only once the answers delivered to it cover the ensemble
-  pub fenced : (r : RecovererId) → past-fences (recoverer-of c (r .0) .phase) ≡ true → Covered h c r (recoverer-of c (r .0) .ledger)
-  -- the layout that a recoverer at work has read is that of the metadata, until the ledger is closed
-  pub read : (r : RecovererId) → at-work (recoverer-of c (r .0) .phase) ≡ true
-      → IsClosed c (recoverer-of c (r .0) .ledger) ⊎ (recoverer-of c (r .0) .layout ≡ ledger-of c (recoverer-of c (r .0) .ledger .0) .layout)
-  -- a ledger in recovery is left at that version until it is closed
+  pub fenced : (r : RecovererId) → past-fences (phase-of c r) ≡ true → Covered h c r (recovering c r)
+  -- the layout that a recoverer at work has read is that of its ledger, until this is closed
+  pub read : (r : RecovererId) → at-work (phase-of c r) ≡ true
+    → IsClosed c (recovering c r) ⊎ (layout-read c r ≡ layout-of c (recovering c r))
+  -- a ledger in recovery stays so, at the same version, until it is closed
   pub ends : (h₁ : History) (c₁ : Cluster) (l : LedgerId) → Reached h₁ c₁ → Runs h₁ c₁ h c → ledger-of c₁ (l .0) .state ≡ InRecovery
-      → IsClosed c l ⊎ ((ledger-of c (l .0) .state ≡ InRecovery) × (ledger-of c (l .0) .version .0 ≡ ledger-of c₁ (l .0) .version .0))
-  -- a closed ledger is closed for ever, and at the same entry
+    → IsClosed c l ⊎ ((ledger-of c (l .0) .state ≡ InRecovery) × (version-of c l .0 ≡ version-of c₁ l .0))
+  -- a closed ledger stays closed, at the same entry
   pub stays : (h₁ : History) (c₁ : Cluster) (l : LedgerId) → Reached h₁ c₁ → Runs h₁ c₁ h c → IsClosed c₁ l
-      → IsClosed c l × (ledger-of c (l .0) .closing .0 ≡ ledger-of c₁ (l .0) .closing .0)
-  -- an ended recoverer that finds another version than its own has lost the race: the ledger is closed, and where the
-  -- finish is accepted it answers the closing entry
-  pub late : (r : RecovererId) → is-ended (recoverer-of c (r .0) .phase) ≡ true
-      → (ledger-of c (recoverer-of c (r .0) .ledger .0) .version .0 ≡ recoverer-of c (r .0) .version .0 → ⊥)
-      → IsClosed c (recoverer-of c (r .0) .ledger) × (finish c r .answer ≡ answer.ClosingEntry (ledger-of c (recoverer-of c (r .0) .ledger .0) .closing))
+    → IsClosed c l × (closing-of c l .0 ≡ closing-of c₁ l .0)
+  -- an ended recoverer that finds another version than its own has lost the race: the ledger is closed, and its finish
+  -- answers the closing entry
+  pub late : (r : RecovererId) → is-ended (phase-of c r) ≡ true → (version-of c (recovering c r) .0 ≡ recoverer-of c (r .0) .version .0 → ⊥)
+    → IsClosed c (recovering c r) × (finish c r .answer ≡ answer.ClosingEntry (closing-of c (recovering c r)))
 
 abbrev pub RoundsLaw : Type 0
 RoundsLaw = (h : History) (c : Cluster) → Reached h c → Rounds h c

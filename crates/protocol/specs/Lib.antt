@@ -7,3 +7,4 @@ pub mod Answers
 pub mod Steps
 pub mod Histories
 pub mod Law
+pub mod Cases

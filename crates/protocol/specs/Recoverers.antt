@@ -1,6 +1,6 @@
 -- The recoverer of a ledger: how it begins, what a reply makes of it, what it asks and how it finishes.
 use Prim.Native.Nat.{ℕ, _+_}
-use mathlib.Core.Bool.{Bool, true, false, cond, _&&_}
+use mathlib.Core.Bool.{Bool, true, false, cond, not, _&&_}
 use mathlib.Core.List.{List, [], _∷_}
 use lib.Dec.{leb, ltb, eqb}
 use lib.ListN.{getD}
@@ -64,16 +64,23 @@ abbrev pub by-store : {A : Type 0} → Result A StoreFault → Result A ClientFa
 by-store (Ok a) = Ok a
 by-store (Err f) = Err (fault.Store f)
 
--- an open ledger is put in recovery, one in recovery is taken as read, and a closed one is refused
+abbrev pub is-open : LedgerState → Bool
+is-open Open = true
+is-open InRecovery = false
+is-open Closed = false
+
+abbrev pub is-over : LedgerState → Bool
+is-over Open = false
+is-over InRecovery = false
+is-over Closed = true
+
+-- a closed ledger is refused, an open one is put in recovery, and one in recovery is taken as read
 abbrev pub begin-answer : Store → LedgerId → Metadata → LedgerState → Result Version ClientFault
-begin-answer s l m Open = by-store (put-answer s l (m .version))
-begin-answer s l m InRecovery = Ok (m .version)
-begin-answer s l m Closed = Err fault.Closed
+begin-answer s l m st =
+    question (not (is-over st)) fault.Closed (cond (is-open st) (by-store (put-answer s l (m .version))) (Ok (m .version)))
 
 abbrev pub begin-store : Store → LedgerId → Metadata → LedgerState → Store
-begin-store s l m Open = put-after s l (m .version) InRecovery (m .layout) (lac-id 0)
-begin-store s l m InRecovery = s
-begin-store s l m Closed = s
+begin-store s l m st = cond (is-open st) (put-after s l (m .version) InRecovery (m .layout) (lac-id 0)) s
 
 -- with the metadata that the store answers
 abbrev pub recover-with : Store → LedgerId → Result Metadata StoreFault → Result Version ClientFault
@@ -256,13 +263,17 @@ abbrev pub heard-sends : Recoverer → RecovererId → Message → List Message
 heard-sends x r m = cond (eqb (phase-number (x .phase)) (phase-number (heard x m .phase))) [] (asks (heard x m) r)
 
 -- finish -------------------------------------------------------------------------------------------------------------
+-- it expects the version that it began with
+abbrev pub finish-version : Recoverer → Store → Version
+finish-version x s = x .version
+
 -- where another recovery closed the ledger first, its closing entry is taken
 abbrev pub finished : Recoverer → Store → Result Version StoreFault → Result Lac ClientFault
 finished x s (Ok v) = Ok (x .settled)
 finished x s (Err f) = cond (is-version f) (Ok (metadata-of s (x .ledger .0) .closing)) (Err (fault.Store f))
 
 abbrev pub finish-answer : Recoverer → Store → Result Lac ClientFault
-finish-answer x s = question (is-ended (x .phase)) fault.Unfinished (finished x s (put-answer s (x .ledger) (x .version)))
+finish-answer x s = question (is-ended (x .phase)) fault.Unfinished (finished x s (put-answer s (x .ledger) (finish-version x s)))
 
 abbrev pub finish-store : Recoverer → Store → Store
-finish-store x s = put-after s (x .ledger) (x .version) Closed (x .layout) (x .settled)
+finish-store x s = put-after s (x .ledger) (finish-version x s) Closed (x .layout) (x .settled)

@@ -1,7 +1,7 @@
 -- The thirteen steps: what each asks, in order, what it answers, and the cluster it leaves.
-use Prim.Native.Nat.{ℕ, _+_}
 use mathlib.Core.Bool.{Bool, true, false, not, _&&_}
 use mathlib.Core.List.{List, [], _∷_}
+use Prim.Native.Nat.{ℕ, _+_}
 use lib.Dec.{ltb, eqb}
 use lib.ListN.{length, getD}
 use Rattle.std.specs.shelf.Lists.{leading}
@@ -10,6 +10,7 @@ use Rattle.std.specs.declared.option.Option.the-variants.{Some, None}
 use Rattle.std.specs.declared.result.Result.{Result}
 use Rattle.std.specs.declared.result.Result.the-variants.{Ok, Err}
 use Rattle.ledgers.specs.Limits.{is-recoverer}
+use Rattle.ledgers.specs.Ids.{lac-id}
 use Rattle.ledgers.specs.BookieLists.{listed}
 use Rattle.ledgers.specs.declared.bodies.Body.{Body}
 use Rattle.ledgers.specs.declared.bookie_lists.BookieList.{BookieList}
@@ -35,11 +36,11 @@ use Rattle.messages.specs.declared.faults.BookieFault.{BookieFault}
 use Rattle.messages.specs.declared.faults.BookieFault.the-variants as refused
 use Rattle.messages.specs.declared.messages.Message.{Message}
 use Rattle.messages.specs.declared.messages.Message.the-variants.{Fence, RecoveryRead, Add, RecoveryAdd, Added, AddRefused, Fenced, Absent, Found, RecoveryAdded, Refused}
-use Rattle.protocol.specs.Bookies.{add-answer, add-after, fence-answer, fence-after, recovery-read-answer, recovery-read-after, with-up}
+use Rattle.protocol.specs.Bookies.{Bookie, add-answer, add-after, fence-answer, fence-after, recovery-read-answer, recovery-read-after, with-up}
 use Rattle.protocol.specs.Stores.{Store, exists, create-answer, create-after}
-use Rattle.protocol.specs.Writers.{new-writer, is-made, fenced-writer, append-answer, appended, append-sends, resend-answer, resends, reply-after, change-answer, change-store, changed-writer, change-sends, close-answer, close-store, closed-writer}
-use Rattle.protocol.specs.Recoverers.{at-work, no-recoverer, by-store, recover-answer, recover-store, new-recoverer, heard, heard-sends, asks, finish-answer, finish-store}
-use Rattle.protocol.specs.Clusters.{Cluster, bookie-of, writer-of, recoverer-of, ledger-of, with-bookie, with-store, with-writer, with-recoverer, with-queue, send}
+use Rattle.protocol.specs.Writers.{Writer, new-writer, is-made, fenced-writer, append-answer, appended, append-sends, resend-answer, resends, reply-after, change-answer, change-store, changed-writer, change-sends, close-answer, close-store, closed-writer}
+use Rattle.protocol.specs.Recoverers.{at-work, no-recoverer, by-store, recover-answer, recover-store, new-recoverer, heard, asks, heard-sends, finish-answer, finish-store}
+use Rattle.protocol.specs.Clusters.{Cluster, bookie-of, writer-of, recoverer-of, phase-of, ledger-of, with-bookie, with-store, with-writer, with-recoverer, with-queue, send}
 use Rattle.protocol.specs.declared.answers.Answer.{Answer}
 use Rattle.protocol.specs.declared.answers.Answer.the-variants as answer
 use Rattle.protocol.specs.declared.faults.ClientFault.{ClientFault}
@@ -99,42 +100,40 @@ create c l e w k bs =
     (ask c (not (exists (c .store) (l .0))) fault.Taken (create-sized c l bs (made-sizes e w k)))
 
 -- the writer's steps -------------------------------------------------------------------------------------------------
+-- the ledger must have a writer
+abbrev pub with-its-writer : Cluster → LedgerId → (Writer → Outcome) → Outcome
+with-its-writer c l k = ask c (is-made (writer-of c (l .0) .state)) (fault.Missing 1) (k (writer-of c (l .0)))
+
 abbrev pub append : Cluster → LedgerId → Body → Outcome
 append c l body =
-    ask c (is-made (writer-of c (l .0) .state)) (fault.Missing 1)
-    (by-client c (append-answer (writer-of c (l .0)))
-    (λ e. done (answer.Entry e)
-    (send (with-writer c (l .0) (appended (writer-of c (l .0)) body)) (append-sends (writer-of c (l .0)) l body))))
+    with-its-writer c l
+    (λ w. by-client c (append-answer w)
+    (λ e. done (answer.Entry e) (send (with-writer c (l .0) (appended w body)) (append-sends w l body))))
 
 abbrev pub resend : Cluster → LedgerId → Outcome
-resend c l =
-    ask c (is-made (writer-of c (l .0) .state)) (fault.Missing 1)
-    (by-client c (resend-answer (writer-of c (l .0))) (λ _. waiting (send c (resends (writer-of c (l .0)) l))))
+resend c l = with-its-writer c l (λ w. by-client c (resend-answer w) (λ _. waiting (send c (resends w l))))
 
 -- a writer that lost its ledger to a recovery is fenced
-abbrev pub lose : Cluster → LedgerId → Outcome
-lose c l = done answer.Lost (with-writer c (l .0) (fenced-writer (writer-of c (l .0))))
+abbrev pub lose : Cluster → LedgerId → Writer → Outcome
+lose c l w = done answer.Lost (with-writer c (l .0) (fenced-writer w))
 
-abbrev pub changed : Cluster → LedgerId → Position → BookieId → Store → Option EntryId → Outcome
-changed c l p b s None = lose c l
-changed c l p b s (Some e) =
-    done (answer.FirstEntry e)
-    (send (with-writer (with-store c s) (l .0) (changed-writer (writer-of c (l .0)) p b)) (change-sends (writer-of c (l .0)) l p b))
+abbrev pub changed : Cluster → LedgerId → Writer → Position → BookieId → Store → Option EntryId → Outcome
+changed c l w p b s None = lose c l w
+changed c l w p b s (Some e) =
+    done (answer.FirstEntry e) (send (with-writer (with-store c s) (l .0) (changed-writer w p b)) (change-sends w l p b))
 
 abbrev pub change-ensemble : Cluster → LedgerId → Position → BookieId → Outcome
 change-ensemble c l p b =
-    ask c (is-made (writer-of c (l .0) .state)) (fault.Missing 1)
-    (ask c (ltb (b .0) (length (c .bookies))) (fault.Missing 3)
-    (by-client c (change-answer (writer-of c (l .0)) (c .store) l p b) (changed c l p b (change-store (writer-of c (l .0)) (c .store) l p b))))
+    with-its-writer c l
+    (λ w. ask c (ltb (b .0) (length (c .bookies))) (fault.Missing 3)
+    (by-client c (change-answer w (c .store) l p b) (changed c l w p b (change-store w (c .store) l p b))))
 
-abbrev pub closed : Cluster → LedgerId → Store → Option Lac → Outcome
-closed c l s None = lose c l
-closed c l s (Some n) = done (answer.ClosingEntry n) (with-writer (with-store c s) (l .0) (closed-writer (writer-of c (l .0))))
+abbrev pub closed : Cluster → LedgerId → Writer → Store → Option Lac → Outcome
+closed c l w s None = lose c l w
+closed c l w s (Some n) = done (answer.ClosingEntry n) (with-writer (with-store c s) (l .0) (closed-writer w))
 
 abbrev pub close : Cluster → LedgerId → Outcome
-close c l =
-    ask c (is-made (writer-of c (l .0) .state)) (fault.Missing 1)
-    (by-client c (close-answer (writer-of c (l .0)) (c .store) l) (closed c l (close-store (writer-of c (l .0)) (c .store) l)))
+close c l = with-its-writer c l (λ w. by-client c (close-answer w (c .store) l) (closed c l w (close-store w (c .store) l)))
 
 -- the recoverers' steps ----------------------------------------------------------------------------------------------
 abbrev pub begun : Cluster → RecovererId → Recoverer → Outcome
@@ -144,21 +143,23 @@ abbrev pub recover : Cluster → RecovererId → LedgerId → Outcome
 recover c r l =
     ask c (is-recoverer (r .0)) (fault.Missing 1)
     (ask c (exists (c .store) (l .0)) (fault.Missing 2)
-    (ask c (not (at-work (recoverer-of c (r .0) .phase))) fault.Taken
+    (ask c (not (at-work (phase-of c r))) fault.Taken
     (by-client c (recover-answer (c .store) l)
     (λ v. begun (with-store c (recover-store (c .store) l)) r (new-recoverer l v (ledger-of c (l .0) .layout))))))
 
-abbrev pub ask-again : Cluster → RecovererId → Outcome
-ask-again c r =
-    ask c (at-work (recoverer-of c (r .0) .phase)) (fault.Missing 1) (waiting (send c (asks (recoverer-of c (r .0)) r)))
+-- the recoverer must be at work
+abbrev pub with-its-recoverer : Cluster → RecovererId → (Recoverer → Outcome) → Outcome
+with-its-recoverer c r k = ask c (at-work (phase-of c r)) (fault.Missing 1) (k (recoverer-of c (r .0)))
 
--- either way it is idle again
+abbrev pub ask-again : Cluster → RecovererId → Outcome
+ask-again c r = with-its-recoverer c r (λ x. waiting (send c (asks x r)))
+
+-- whoever closed the ledger, it is idle again
 abbrev pub finish : Cluster → RecovererId → Outcome
 finish c r =
-    ask c (at-work (recoverer-of c (r .0) .phase)) (fault.Missing 1)
-    (by-client c (finish-answer (recoverer-of c (r .0)) (c .store))
-    (λ n. done (answer.ClosingEntry n)
-    (with-recoverer (with-store c (finish-store (recoverer-of c (r .0)) (c .store))) (r .0) no-recoverer)))
+    with-its-recoverer c r
+    (λ x. by-client c (finish-answer x (c .store))
+    (λ n. done (answer.ClosingEntry n) (with-recoverer (with-store c (finish-store x (c .store))) (r .0) no-recoverer)))
 
 -- delivery -----------------------------------------------------------------------------------------------------------
 -- a request to a stopped bookie is lost, and any other refusal goes back
@@ -192,7 +193,7 @@ served (Err f) = answer.Unserved f
 
 abbrev pub to-writer : Cluster → LedgerId → BookieId → EntryId → Result (Unit {0}) BookieFault → Outcome
 to-writer c l b e a =
-    done (answer.Confirmed (record { 0 = reply-after (writer-of c (l .0)) (b .0) (e .0) a .lac }))
+    done (answer.Confirmed (lac-id (reply-after (writer-of c (l .0)) (b .0) (e .0) a .lac)))
     (with-writer c (l .0) (reply-after (writer-of c (l .0)) (b .0) (e .0) a))
 
 -- what is settled, or that it is idle
@@ -208,23 +209,20 @@ to-recoverer c r m =
     done (standing (heard (recoverer-of c (r .0)) m .phase) (heard (recoverer-of c (r .0)) m .settled))
     (send (with-recoverer c (r .0) (heard (recoverer-of c (r .0)) m)) (heard-sends (recoverer-of c (r .0)) r m))
 
+-- the bookie answered a, became x and has its reply sent
+abbrev pub to-bookie : {A : Type 0} → Cluster → BookieId → Result A BookieFault → Bookie → (Result A BookieFault → List Message) → Outcome
+to-bookie c b a x reply = done (served a) (send (with-bookie c (b .0) x) (reply a))
+
 -- what a message does where it arrives
 abbrev pub act : Cluster → Message → Outcome
-act c (Add l b e n body) =
-    done (served (add-answer (bookie-of c (b .0)) l e n body false))
-    (send (with-bookie c (b .0) (add-after (bookie-of c (b .0)) l e n body false))
-    (add-reply l b e (add-answer (bookie-of c (b .0)) l e n body false)))
-act c (RecoveryAdd r l b e n body) =
-    done (served (add-answer (bookie-of c (b .0)) l e n body true))
-    (send (with-bookie c (b .0) (add-after (bookie-of c (b .0)) l e n body true))
-    (recovery-add-reply r l b e (add-answer (bookie-of c (b .0)) l e n body true)))
-act c (Fence r l b) =
-    done (served (fence-answer (bookie-of c (b .0)) l))
-    (send (with-bookie c (b .0) (fence-after (bookie-of c (b .0)) l)) (fence-reply r l b (fence-answer (bookie-of c (b .0)) l)))
+act c (Fence r l b) = to-bookie c b (fence-answer (bookie-of c (b .0)) l) (fence-after (bookie-of c (b .0)) l) (fence-reply r l b)
 act c (RecoveryRead r l b e) =
-    done (served (recovery-read-answer (bookie-of c (b .0)) l e))
-    (send (with-bookie c (b .0) (recovery-read-after (bookie-of c (b .0)) l e))
-    (read-reply r l b e (recovery-read-answer (bookie-of c (b .0)) l e)))
+    to-bookie c b (recovery-read-answer (bookie-of c (b .0)) l e) (recovery-read-after (bookie-of c (b .0)) l e) (read-reply r l b e)
+act c (Add l b e n body) =
+    to-bookie c b (add-answer (bookie-of c (b .0)) l e n body false) (add-after (bookie-of c (b .0)) l e n body false) (add-reply l b e)
+act c (RecoveryAdd r l b e n body) =
+    to-bookie c b (add-answer (bookie-of c (b .0)) l e n body true) (add-after (bookie-of c (b .0)) l e n body true)
+    (recovery-add-reply r l b e)
 act c (Added l b e) = to-writer c l b e (Ok tt)
 act c (AddRefused l b e f) = to-writer c l b e (Err f)
 act c (Fenced r l b n) = to-recoverer c r (Fenced r l b n)

@@ -1,9 +1,24 @@
 // The statements over all runs, each on the contract of a function, so that the check asks for its proof.
-ghost use Rattle.protocol.specs.Law.{Law};
+ghost use Rattle.protocol.specs.Law.{Law, RoundsLaw};
+ghost use Rattle.protocol.specs.Cases.{Cases};
 
 // A closed ledger keeps its word, after every list of steps.
 pub fn closed_ledger_keeps_its_word() -> u8
     ensures { λ _. ⌜ Law ⌝ }
+{
+    0
+}
+
+// A recovery goes by its rounds, after every list of steps.
+pub fn recoveries_go_by_rounds() -> u8
+    ensures { λ _. ⌜ RoundsLaw ⌝ }
+{
+    0
+}
+
+// The checked cases come out as they should.
+pub fn cases_hold() -> u8
+    ensures { λ _. ⌜ Cases ⌝ }
 {
     0
 }
