@@ -7,5 +7,6 @@
 // Each is proved equal to its definition in `specs/`, and the layouts that are made here rise from entry 0 on as long as
 // changes do.
 pub mod fragments;
+pub mod marks;
 pub mod positions;
 pub mod sizes;

@@ -10,7 +10,8 @@ use ledgers::ids::Position;
 impl Sizes {
     // How many positions an ensemble has.
     pub fn ensemble(&self) -> u32
-        ensures { λ r. ⌜ r ≡ now (self .entry) .ensemble ⌝ }
+        ensures value { λ r. ⌜ r ≡ now (self .entry) .ensemble ⌝ }
+        ensures few { λ r. ⌜ r ≤ 5 ⌝ }
     {
         self.ensemble
     }
