@@ -6,5 +6,6 @@ pub mod phases;
 pub mod hearing;
 pub mod asking;
 
+
 pub use hearing::Recovery;
 pub use hearing::RecovererRecovery;
