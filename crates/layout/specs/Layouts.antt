@@ -18,6 +18,7 @@ use Rattle.layout.specs.declared.fragments.Layout.{Layout}
 abbrev pub no-fragment : Fragment
 no-fragment = record { first = entry-id 0; bookies = [] }
 
+-- zeros from entry 0 on
 abbrev pub blank-fragment : Fragment
 blank-fragment = record { first = entry-id 0; bookies = replicate 5 0 }
 
@@ -30,6 +31,7 @@ fragment-below fs (suc n) e = cond (leb (getD fs n no-fragment .first .0) e) (ge
 abbrev pub fragment-of : Layout → ℕ → Fragment
 fragment-of y e = fragment-below (y .fragments) (y .count) e
 
+-- the fragment that the next entries belong to
 abbrev pub last-fragment : Layout → Fragment
 last-fragment y = getD (y .fragments) (y .count - 1) no-fragment
 
@@ -74,12 +76,15 @@ room-for y n = alters y n || ltb (y .count) 8
 abbrev pub changed-fragment : Fragment → ℕ → ℕ → ℕ → Fragment
 changed-fragment f n p b = record { first = entry-id n; bookies = set (f .bookies) p b }
 
+-- where the changed fragment goes
 abbrev pub changed-place : Layout → ℕ → ℕ
 changed-place y n = cond (alters y n) (y .count - 1) (y .count)
 
+-- how many fragments there are then
 abbrev pub changed-count : Layout → ℕ → ℕ
 changed-count y n = cond (alters y n) (y .count) (min 8 (suc (y .count)))
 
+-- the layout with bookie b at position p from entry n on
 abbrev pub changed-layout : Layout → ℕ → ℕ → ℕ → Layout
 changed-layout y n p b =
     record {

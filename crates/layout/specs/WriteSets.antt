@@ -24,9 +24,11 @@ abbrev pub tally : {A : Type 0} → (A → Bool) → List A → ℕ
 tally t [] = 0
 tally t (x ∷ xs) = cond (t x) (suc (tally t xs)) (tally t xs)
 
+-- position p is marked
 abbrev pub marked : List Bool → ℕ → Bool
 marked m p = getD m p false
 
+-- no position is marked
 abbrev pub no-marks : List Bool
 no-marks = replicate 5 false
 

@@ -3,12 +3,15 @@ use Prim.Native.Nat.{ℕ}
 use mathlib.Core.Bool.{Bool, _&&_}
 use lib.Dec.{leb, ltb}
 
+-- so many ledgers,
 abbrev pub max-ledgers : ℕ
 max-ledgers = 16
 
+-- entries of each,
 abbrev pub max-entries : ℕ
 max-entries = 10000
 
+-- and recoverers
 abbrev pub max-recoverers : ℕ
 max-recoverers = 4
 

@@ -61,6 +61,7 @@ absent-known None h = refl
 absent-known (Some m) h = absurd (true≢false h)
 
 -- create -------------------------------------------------------------------------------------------------------------
+-- as much as is taken
 take-length : {A : Type 0} (n : ℕ) (xs : List A) → take (length (take n xs)) xs ≡ take n xs
 take-length zero xs = refl
 take-length (suc n) [] = refl
@@ -74,6 +75,7 @@ listed-ok s bs h =
     first-layout-ok s (bs .numbers) (let k = length-take (bs .count) (bs .numbers) in omega arith)
     (subst (λ (k : ℕ). distinct (take k (bs .numbers)) ≡ true) n (rw (take-length (bs .count) (bs .numbers)) (p .1)))
 
+-- a ledger is created
 pub create-keeps : {x₀ : World} (ns : List Note) (c : Cluster) (l : LedgerId) (e w k : ℕ) (bs : BookieList) → InvAt x₀ ns c
     → Keeps x₀ ns c (Create l e w k bs) (create c l e w k bs)
 create-keeps {x₀} ns c l e w k bs i =
@@ -121,13 +123,16 @@ pub pending-length : (ts : List Body) (A : ℕ → ℕ → Bool) (y : Layout) (e
 pending-length ts A y e [] h = let k : length ts ≡ e = h in omega arith
 pending-length ts A y e (p ∷ ps) h = let k = pending-length ts A y (suc e) ps (h .2) in omega arith
 
+-- old contents stay
 pub content-more : (ts : List Body) (body : Body) (e : ℕ) (b : Body) → ContentAt ts e b → ContentAt (ts ++ (body ∷ [])) e b
 content-more ts body e b h =
     (let k = h .0 in rw (length-append ts (body ∷ [])) (omega arith), getD-append-left ts (body ∷ []) no-body e (h .0) ∙ h .1)
 
+-- and the new one is the last
 pub content-last : (ts : List Body) (body : Body) (e : ℕ) → length ts ≡ e → ContentAt (ts ++ (body ∷ [])) e body
 content-last ts body e h = (rw (length-append ts (body ∷ [])) (omega arith), getD-at ts body [] no-body e h)
 
+-- one more add is pending
 pending-push : (ts : List Body) (body : Body) (A : ℕ → ℕ → Bool) (y : Layout) (e : ℕ) (ps : List PendingAdd) → PendingOk ts A y e ps
     → PendingOk (ts ++ (body ∷ [])) A y e (ps ++ (new-add body ∷ []))
 pending-push ts body A y e [] h =
@@ -142,6 +147,7 @@ adds-to-ok x u l e n p (q ∷ qs) h =
     cond-both (marked (p .marks) q) (adds-to u l e n p qs) (Add l (bookie-id (bookie-at u e q)) (entry-id e) (lac-id n) (p .body) ∷ adds-to u l e n p qs)
     (All (MessageOk x)) (λ _. adds-to-ok x u l e n p qs h) (λ _. (h, adds-to-ok x u l e n p qs h))
 
+-- an entry is appended
 pub append-keeps : {x₀ : World} (ns : List Note) (c : Cluster) (l : LedgerId) (body : Body) → InvAt x₀ ns c → Keeps x₀ ns c (Append l body) (append c l body)
 append-keeps {x₀} ns c l body i =
     ask-cases c (Keeps x₀ ns c (Append l body)) (is-made (w .state)) (fault.Missing 1) _ i
@@ -198,6 +204,7 @@ append-keeps {x₀} ns c l body i =
         old : WriterOk (contents-of ns (l .0)) (acked-by ns (l .0)) w
         old = i .writing (l .0)
 
+        -- what it is
         new : WriterOk (contents-of ns (l .0) ++ (body ∷ [])) (acked-by ns (l .0)) w′
         new =
             record {
@@ -224,6 +231,7 @@ append-keeps {x₀} ns c l body i =
             (ledger-later t k (writer-of c k) (ledger-of c k) (i .metadata k)))
 
 -- resend -------------------------------------------------------------------------------------------------------------
+-- adds of pending entries carry their contents
 all-adds-ok : (x : World) (u : Layout) (l : LedgerId) (n e : ℕ) (ps : List PendingAdd) → n ≤ x .writer (l .0) .lac
     → PendingOk (x .contents (l .0)) (x .acked (l .0)) u e ps → All (MessageOk x) (all-adds u l n e ps)
 all-adds-ok x u l n e [] k h = tt
@@ -231,6 +239,7 @@ all-adds-ok x u l n e (p ∷ ps) k h =
     all-append (MessageOk x) (adds u l e n p) (all-adds u l n (suc e) ps) (adds-to-ok x u l e n p (write-set (u .sizes) e) (h .0, k))
     (all-adds-ok x u l n (suc e) ps k (h .2))
 
+-- they go again
 pub resend-keeps : {x₀ : World} (ns : List Note) (c : Cluster) (l : LedgerId) → InvAt x₀ ns c → Keeps x₀ ns c (Resend l) (resend c l)
 resend-keeps {x₀} ns c l i =
     ask-cases c (Keeps x₀ ns c (Resend l)) (is-made (w .state)) (fault.Missing 1) _ i
@@ -260,6 +269,7 @@ lose-inv ns c l made o i =
     (fenced-becomes (world ns c) (l .0) (writer-of c (l .0)) (ledger-of c (l .0)) made o (i .writing (l .0)) (i .metadata (l .0)))
 
 -- close --------------------------------------------------------------------------------------------------------------
+-- a ledger is closed by its writer
 pub close-keeps : {x₀ : World} (ns : List Note) (c : Cluster) (l : LedgerId) → InvAt x₀ ns c → Keeps x₀ ns c (Close l) (close c l)
 close-keeps {x₀} ns c l i =
     ask-cases c K (is-made (w .state)) (fault.Missing 1) _ i
@@ -305,6 +315,7 @@ in-last y e h =
     let k : y .count ≡ suc (y .count - 1) = let s = y .some in omega arith in
     ap (λ n. fragment-below (y .fragments) n e) k ∙ cond-true _ _ _ (le-leb (last-first y) e h)
 
+-- a change behind leaves the fragments before it
 below-set : (fs : List Fragment) (i : ℕ) (f : Fragment) (n e : ℕ) → n ≤ i → fragment-below (set fs i f) n e ≡ fragment-below fs n e
 below-set fs i f zero e h = refl
 below-set fs i f (suc n) e h =
@@ -321,6 +332,7 @@ record ChangedAt (y : Layout) (n p b : ℕ) : Type 0 where
   within : place ≤ y .count
   start : place ≡ 0 → n ≡ getD (y .fragments) 0 no-fragment .first .0
 
+-- altered or added
 changed-at : (y : Layout) (n p b : ℕ) → room-for y n ≡ true → ChangedAt y n p b
 changed-at y n p b room = by (alters y n) refl
   where
@@ -356,12 +368,14 @@ changed-at y n p b room = by (alters y n) refl
         }
 
 module _ (y : Layout) (n p b : ℕ) (room : room-for y n ≡ true) where
+  -- where it is
   z : ChangedAt y n p b
   z = changed-at y n p b room
 
   new : Fragment
   new = changed-fragment (last-fragment y) n p b
 
+  -- the fragment of an entry afterwards
   changed-of : (e : ℕ) → fragment-of (changed-layout y n p b) e ≡ cond (leb n e) new (fragment-below (y .fragments) (z .place) e)
   unfolding new
   changed-of e =
@@ -381,6 +395,7 @@ module _ (y : Layout) (n p b : ℕ) (room : room-for y n ≡ true) where
       ap (λ (g : Fragment). g .bookies) (changed-of e ∙ cond-true _ _ _ (le-leb n e h))
       ∙ ap (λ (g : Fragment). set (g .bookies) p b) (sym (in-last y e (omega arith)))
 
+  -- it begins with the first unconfirmed entry at the latest
   changed-first : last-first (changed-layout y n p b) ≤ n
   unfolding new
   changed-first =
@@ -426,6 +441,7 @@ module _ (y : Layout) (n p b : ℕ) (room : room-for y n ≡ true) where
     changed-pending ts A (suc e) ps (omega arith) h (g .2),
   )
 
+-- what goes to the new bookie carries its content
 adds-at-ok : (x : World) (u y : Layout) (l : LedgerId) (n q : ℕ) (b : BookieId) (e : ℕ) (ps : List PendingAdd) → n ≤ x .writer (l .0) .lac
     → PendingOk (x .contents (l .0)) (x .acked (l .0)) u e ps → All (MessageOk x) (adds-at y l n q b e ps)
 adds-at-ok x u y l n q b e [] k h = tt
@@ -433,6 +449,7 @@ adds-at-ok x u y l n q b e (p ∷ ps) k h =
     cond-both (member q (write-set (y .sizes) e)) _ _ (All (MessageOk x)) (λ _. ((h .0, k), adds-at-ok x u y l n q b (suc e) ps k (h .2)))
     (λ _. adds-at-ok x u y l n q b (suc e) ps k (h .2))
 
+-- an ensemble is changed
 pub change-keeps : {x₀ : World} (ns : List Note) (c : Cluster) (l : LedgerId) (p : Position) (b : BookieId) → InvAt x₀ ns c
     → Keeps x₀ ns c (ChangeEnsemble l p b) (change-ensemble c l p b)
 change-keeps {x₀} ns c l p b i =

@@ -29,12 +29,15 @@ use Rattle.protocol.specs.declared.recoverers.Phase.the-variants.{Idle, Fencin
 abbrev pub IsClosed : Cluster → LedgerId → Type 0
 IsClosed c l = ledger-of c (l .0) .state ≡ Closed
 
+-- the closing entry of ledger l
 abbrev pub closing-of : Cluster → LedgerId → Lac
 closing-of c l = ledger-of c (l .0) .closing
 
+-- its layout
 abbrev pub layout-of : Cluster → LedgerId → Layout
 layout-of c l = ledger-of c (l .0) .layout
 
+-- its version
 abbrev pub version-of : Cluster → LedgerId → Version
 version-of c l = ledger-of c (l .0) .version
 
@@ -67,6 +70,7 @@ pub record Word (h : History) (c : Cluster) : Type 0 where
       → Reached h₁ c₁ → Runs h₁ c₁ h c → Covered h₁ c₁ r l
       → Appended h l e body → (Appended h₁ l e body → ⊥) → Confirmed h l e → ⊥
 
+-- after every list of steps
 abbrev pub Law : Type 0
 Law = (h : History) (c : Cluster) → Reached h c → Word h c
 
@@ -84,17 +88,18 @@ pub record Rounds (h : History) (c : Cluster) : Type 0 where
   pub fenced : (r : RecovererId) → past-fences (phase-of c r) ≡ true → Covered h c r (recovering c r)
   -- the layout that a recoverer at work has read is that of its ledger, until this is closed
   pub read : (r : RecovererId) → at-work (phase-of c r) ≡ true
-    → IsClosed c (recovering c r) ⊎ (layout-read c r ≡ layout-of c (recovering c r))
+      → IsClosed c (recovering c r) ⊎ (layout-read c r ≡ layout-of c (recovering c r))
   -- a ledger in recovery stays so, at the same version, until it is closed
   pub ends : (h₁ : History) (c₁ : Cluster) (l : LedgerId) → Reached h₁ c₁ → Runs h₁ c₁ h c → ledger-of c₁ (l .0) .state ≡ InRecovery
-    → IsClosed c l ⊎ ((ledger-of c (l .0) .state ≡ InRecovery) × (version-of c l .0 ≡ version-of c₁ l .0))
+      → IsClosed c l ⊎ ((ledger-of c (l .0) .state ≡ InRecovery) × (version-of c l .0 ≡ version-of c₁ l .0))
   -- a closed ledger stays closed, at the same entry
   pub stays : (h₁ : History) (c₁ : Cluster) (l : LedgerId) → Reached h₁ c₁ → Runs h₁ c₁ h c → IsClosed c₁ l
-    → IsClosed c l × (closing-of c l .0 ≡ closing-of c₁ l .0)
+      → IsClosed c l × (closing-of c l .0 ≡ closing-of c₁ l .0)
   -- an ended recoverer that finds another version than its own has lost the race: the ledger is closed, and its finish
   -- answers the closing entry
   pub late : (r : RecovererId) → is-ended (phase-of c r) ≡ true → (version-of c (recovering c r) .0 ≡ recoverer-of c (r .0) .version .0 → ⊥)
-    → IsClosed c (recovering c r) × (finish c r .answer ≡ answer.ClosingEntry (closing-of c (recovering c r)))
+      → IsClosed c (recovering c r) × (finish c r .answer ≡ answer.ClosingEntry (closing-of c (recovering c r)))
 
+-- after every list of steps
 abbrev pub RoundsLaw : Type 0
 RoundsLaw = (h : History) (c : Cluster) → Reached h c → Rounds h c
