@@ -7,6 +7,7 @@ use native.Mathlib.Omega.{arith}
 use lib.Dec.{leb, ltb, eqb, lit≤}
 use lib.ListN.{getD, set, replicate, length-set}
 use Rattle.std.proofs.shelf.Tests.{cond-both}
+use Rattle.ledgers.specs.Limits.{max-ensemble, max-fragments}
 use Rattle.ledgers.specs.Ids.{entry-id}
 use Rattle.layout.specs.Sizes.{sizes-of}
 use Rattle.layout.specs.WriteSets.{write-set}
@@ -20,7 +21,7 @@ no-fragment = record { first = entry-id 0; bookies = [] }
 
 -- zeros from entry 0 on
 abbrev pub blank-fragment : Fragment
-blank-fragment = record { first = entry-id 0; bookies = replicate 5 0 }
+blank-fragment = record { first = entry-id 0; bookies = replicate max-ensemble 0 }
 
 -- the last of the first n fragments whose first entry is not above e
 abbrev pub fragment-below : List Fragment → ℕ → ℕ → Fragment
@@ -61,7 +62,7 @@ first-layout s bs =
 
 -- no ledger's layout
 abbrev pub no-layout : Layout
-no-layout = first-layout (sizes-of 1 1 1) (replicate 5 0)
+no-layout = first-layout (sizes-of 1 1 1) (replicate max-ensemble 0)
 
 -- a change -----------------------------------------------------------------------------------------------------------
 -- a change from entry n on alters the last fragment where n is its first entry, and else adds one
@@ -70,7 +71,7 @@ alters y n = eqb (last-first y) n
 
 -- there is a place for what the change makes
 abbrev pub room-for : Layout → ℕ → Bool
-room-for y n = alters y n || ltb (y .count) 8
+room-for y n = alters y n || ltb (y .count) max-fragments
 
 -- from entry n on, bookie b at position p
 abbrev pub changed-fragment : Fragment → ℕ → ℕ → ℕ → Fragment
@@ -82,7 +83,7 @@ changed-place y n = cond (alters y n) (y .count - 1) (y .count)
 
 -- how many fragments there are then
 abbrev pub changed-count : Layout → ℕ → ℕ
-changed-count y n = cond (alters y n) (y .count) (min 8 (suc (y .count)))
+changed-count y n = cond (alters y n) (y .count) (min max-fragments (suc (y .count)))
 
 -- the layout with bookie b at position p from entry n on
 abbrev pub changed-layout : Layout → ℕ → ℕ → ℕ → Layout
@@ -92,6 +93,6 @@ changed-layout y n p b =
       fragments = set (y .fragments) (changed-place y n) (changed-fragment (last-fragment y) n p b);
       count = changed-count y n;
       eight = length-set (y .fragments) (changed-place y n) (changed-fragment (last-fragment y) n p b) ∙ y .eight;
-      some = cond-both (alters y n) (y .count) (min 8 (suc (y .count))) (λ k. 1 ≤ k) (λ _. y .some) (λ _. omega arith);
-      few = cond-both (alters y n) (y .count) (min 8 (suc (y .count))) (λ k. k ≤ 8) (λ _. y .few) (λ _. omega arith);
+      some = cond-both (alters y n) (y .count) (min max-fragments (suc (y .count))) (λ k. 1 ≤ k) (λ _. y .some) (λ _. omega arith);
+      few = cond-both (alters y n) (y .count) (min max-fragments (suc (y .count))) (λ k. k ≤ 8) (λ _. y .few) (λ _. omega arith);
     }

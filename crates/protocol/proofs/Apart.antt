@@ -11,6 +11,7 @@ use lib.ListN.{length, getD, set, take, replicate}
 use Rattle.std.specs.shelf.Lists.{All}
 use Rattle.std.proofs.shelf.Lists.{getD-take, length-take-le}
 use Rattle.std.proofs.shelf.Tests.{both-ways, true≢false, false≢true, cond-both, eqb-false, eq-eqb, ne-eqb, leb-false, cases-lt}
+use Rattle.ledgers.specs.Limits.{max-ensemble}
 use Rattle.layout.specs.Sizes.{sizes-of}
 use Rattle.layout.specs.WriteSets.{positions, write-set, member, distinct}
 use Rattle.layout.specs.Layouts.{no-fragment, blank-fragment, fragment-below, fragment-of, bookie-at, bookies-of, first-layout, no-layout}
@@ -162,4 +163,4 @@ first-layout-ok s bs full apart =
 
 -- the blank layout
 pub no-layout-ok : LayoutOk no-layout
-no-layout-ok = first-layout-ok (sizes-of 1 1 1) (replicate 5 0) (lit≤ tt) refl
+no-layout-ok = first-layout-ok (sizes-of 1 1 1) (replicate max-ensemble 0) (lit≤ tt) refl

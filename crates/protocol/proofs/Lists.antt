@@ -12,7 +12,7 @@ use Rattle.std.specs.shelf.Lists.{All}
 use Rattle.std.proofs.shelf.Elements.{all-append, all-push, all-take, all-drop}
 use Rattle.std.proofs.shelf.Lists.{getD-past, set-past}
 use Rattle.std.proofs.shelf.Tests.{and-parts, true≢false, false≢true, cond-both, cond-false, eqb-true, ne-eqb, leb-true, cases-eq, cases-lt}
-use Rattle.ledgers.specs.Limits.{max-ledgers, is-ledger}
+use Rattle.ledgers.specs.Limits.{max-ledgers, max-ensemble, is-ledger}
 use Rattle.ledgers.specs.Tables.{row, numbered, renumbered}
 use Rattle.layout.specs.WriteSets.{write-set, tally, marked, no-marks, mark}
 use Rattle.layout.specs.Layouts.{bookie-at, bookies-of}
@@ -199,7 +199,7 @@ mark-is P bs (p ∷ ps) b m h k =
 
 -- a mark was made by somebody
 pub none-marked : (q : ℕ) → marked no-marks q ≡ true → ⊥
-none-marked q h = true≢false (sym h ∙ at-replicate (λ v. v ≡ false) 5 q false refl)
+none-marked q h = true≢false (sym h ∙ at-replicate (λ v. v ≡ false) max-ensemble q false refl)
 
 -- marks on the positions of a write set count bookies of it
 pub marks-count : (t : ℕ → Bool) (y : Layout) (e : ℕ) (m : List Bool) → ((q : ℕ) → marked m q ≡ true → t (bookie-at y e q) ≡ true)

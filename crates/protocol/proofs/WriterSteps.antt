@@ -15,7 +15,7 @@ use Rattle.std.specs.declared.option.Option.{Option}
 use Rattle.std.specs.declared.option.Option.the-variants.{Some, None}
 use Rattle.std.specs.declared.result.Result.{Result}
 use Rattle.std.specs.declared.result.Result.the-variants.{Ok}
-use Rattle.ledgers.specs.Limits.{max-entries, is-ledger}
+use Rattle.ledgers.specs.Limits.{max-entries, max-fragments, max-pending, is-ledger}
 use Rattle.ledgers.specs.Ids.{bookie-id, entry-id, lac-id, version-id}
 use Rattle.ledgers.specs.BookieLists.{listed}
 use Rattle.ledgers.specs.declared.bodies.Body.{Body}
@@ -153,7 +153,7 @@ append-keeps {x₀} ns c l body i =
     ask-cases c (Keeps x₀ ns c (Append l body)) (is-made (w .state)) (fault.Missing 1) _ i
     (λ q4. writing-asked w _ K (λ f. i)
     (λ q7 q8. asked (has-room w) client.Full (Ok (entry-id (next-entry w))) K i
-    (λ q11. grown q4 q7 q8 (ltb-true (next-entry w) max-entries (and-parts (ltb (length (w .pending)) 16) (ltb (next-entry w) max-entries) q11 .1)))))
+    (λ q11. grown q4 q7 q8 (ltb-true (next-entry w) max-entries (and-parts (ltb (length (w .pending)) max-pending) (ltb (next-entry w) max-entries) q11 .1)))))
   where
     w : Writer
     w = writer-of c (l .0)
@@ -344,7 +344,7 @@ changed-at y n p b room = by (alters y n) refl
         let c : y .count ≡ suc (y .count - 1) = let s = y .some in omega arith in
         record {
           place = y .count - 1;
-          count = ap (λ v. cond v (y .count) (min 8 (suc (y .count)))) t ∙ c;
+          count = ap (λ v. cond v (y .count) (min max-fragments (suc (y .count)))) t ∙ c;
           fragments = ap (λ v. set (y .fragments) (cond v (y .count - 1) (y .count)) f) t;
           inside = let s = y .some in let l = y .few in let g = y .eight in omega arith;
           below = λ e h.
@@ -354,12 +354,12 @@ changed-at y n p b room = by (alters y n) refl
           start = λ o. sym (eqb-true (last-first y) n t) ∙ ap (λ m. getD (y .fragments) m no-fragment .first .0) o;
         }
     by false t =
-        let r : ltb (y .count) 8 ≡ true = elim (or-cases (alters y n) (ltb (y .count) 8) room) [ inl z ↦ absurd (both-ways (alters y n) t z) | inr z ↦ z ] in
-        let few : y .count < 8 = ltb-true (y .count) 8 r in
-        let more-count : min 8 (suc (y .count)) ≡ suc (y .count) = omega arith in
+        let r : ltb (y .count) max-fragments ≡ true = elim (or-cases (alters y n) (ltb (y .count) max-fragments) room) [ inl z ↦ absurd (both-ways (alters y n) t z) | inr z ↦ z ] in
+        let few : y .count < max-fragments = ltb-true (y .count) max-fragments r in
+        let more-count : min max-fragments (suc (y .count)) ≡ suc (y .count) = omega arith in
         record {
           place = y .count;
-          count = ap (λ v. cond v (y .count) (min 8 (suc (y .count)))) t ∙ more-count;
+          count = ap (λ v. cond v (y .count) (min max-fragments (suc (y .count)))) t ∙ more-count;
           fragments = ap (λ v. set (y .fragments) (cond v (y .count - 1) (y .count)) f) t;
           inside = let g = y .eight in omega arith;
           below = λ e h. refl;
@@ -369,54 +369,54 @@ changed-at y n p b room = by (alters y n) refl
 
 module _ (y : Layout) (n p b : ℕ) (room : room-for y n ≡ true) where
   -- where it is
-  z : ChangedAt y n p b
-  z = changed-at y n p b room
+  spot : ChangedAt y n p b
+  spot = changed-at y n p b room
 
-  new : Fragment
-  new = changed-fragment (last-fragment y) n p b
+  newest : Fragment
+  newest = changed-fragment (last-fragment y) n p b
 
   -- the fragment of an entry afterwards
-  changed-of : (e : ℕ) → fragment-of (changed-layout y n p b) e ≡ cond (leb n e) new (fragment-below (y .fragments) (z .place) e)
-  unfolding new
+  changed-of : (e : ℕ) → fragment-of (changed-layout y n p b) e ≡ cond (leb n e) newest (fragment-below (y .fragments) (spot .place) e)
+  unfolding newest
   changed-of e =
-      ap (λ m. fragment-below (changed-layout y n p b .fragments) m e) (z .count) ∙ ap (λ fs. fragment-below fs (suc (z .place)) e) (z .fragments)
-      ∙ ap (λ (g : Fragment). cond (leb (g .first .0) e) g (fragment-below (set (y .fragments) (z .place) new) (z .place) e))
-      (getD-set-same (y .fragments) (z .place) new no-fragment (z .inside))
-      ∙ ap (λ g. cond (leb n e) new g) (below-set (y .fragments) (z .place) new (z .place) e (omega arith))
+      ap (λ m. fragment-below (changed-layout y n p b .fragments) m e) (spot .count) ∙ ap (λ fs. fragment-below fs (suc (spot .place)) e) (spot .fragments)
+      ∙ ap (λ (g : Fragment). cond (leb (g .first .0) e) g (fragment-below (set (y .fragments) (spot .place) newest) (spot .place) e))
+      (getD-set-same (y .fragments) (spot .place) newest no-fragment (spot .inside))
+      ∙ ap (λ g. cond (leb n e) newest g) (below-set (y .fragments) (spot .place) newest (spot .place) e (omega arith))
 
   -- entries before the change stay where they are
   changed-below : (e : ℕ) → e < n → fragment-of (changed-layout y n p b) e ≡ fragment-of y e
-  changed-below e h = changed-of e ∙ cond-false _ _ _ (lt-leb n e h) ∙ z .below e h
+  changed-below e h = changed-of e ∙ cond-false _ _ _ (lt-leb n e h) ∙ spot .below e h
 
-  -- the others have the new bookie at its position
+  -- the others have the newest bookie at its position
   changed-above : (e : ℕ) → n ≤ e → last-first y ≤ n → fragment-of (changed-layout y n p b) e .bookies ≡ set (fragment-of y e .bookies) p b
-  unfolding new
+  unfolding newest
   changed-above e h l =
       ap (λ (g : Fragment). g .bookies) (changed-of e ∙ cond-true _ _ _ (le-leb n e h))
       ∙ ap (λ (g : Fragment). set (g .bookies) p b) (sym (in-last y e (omega arith)))
 
   -- it begins with the first unconfirmed entry at the latest
   changed-first : last-first (changed-layout y n p b) ≤ n
-  unfolding new
+  unfolding newest
   changed-first =
-      let c = z .count in
-      let k : changed-layout y n p b .count - 1 ≡ z .place = omega arith in
-      let f = ap (λ m. getD (changed-layout y n p b .fragments) m no-fragment) k ∙ ap (λ fs. getD fs (z .place) no-fragment) (z .fragments)
-      ∙ getD-set-same (y .fragments) (z .place) new no-fragment (z .inside) in
+      let c = spot .count in
+      let k : changed-layout y n p b .count - 1 ≡ spot .place = omega arith in
+      let f = ap (λ m. getD (changed-layout y n p b .fragments) m no-fragment) k ∙ ap (λ fs. getD fs (spot .place) no-fragment) (spot .fragments)
+      ∙ getD-set-same (y .fragments) (spot .place) newest no-fragment (spot .inside) in
       let g = ap (λ (h : Fragment). h .first .0) f in omega arith
 
   -- the bookies stay different
   changed-ok : LayoutOk y → not (member b (take (y .sizes .ensemble) (last-fragment y .bookies))) ≡ true → LayoutOk (changed-layout y n p b)
-  unfolding new
+  unfolding newest
   changed-ok h free =
       record {
-        first = rw (z .fragments)
-            (at-set-in (λ (f : Fragment). f .first .0 ≡ 0) (y .fragments) (z .place) 0 new no-fragment (z .inside) (λ o. z .start (sym o) ∙ h .first) (λ _. h .first));
-        full = λ i l. rw (z .fragments)
-            (at-set-in (λ (f : Fragment). y .sizes .ensemble ≤ length (f .bookies)) (y .fragments) (z .place) i new no-fragment (z .inside)
+        first = rw (spot .fragments)
+            (at-set-in (λ (f : Fragment). f .first .0 ≡ 0) (y .fragments) (spot .place) 0 newest no-fragment (spot .inside) (λ o. spot .start (sym o) ∙ h .first) (λ _. h .first));
+        full = λ i l. rw (spot .fragments)
+            (at-set-in (λ (f : Fragment). y .sizes .ensemble ≤ length (f .bookies)) (y .fragments) (spot .place) i newest no-fragment (spot .inside)
             (λ _. let e = length-set (last-fragment y .bookies) p b in let v = h .full (y .count - 1) last in omega arith) (λ ne. h .full i (within i l ne)));
-        apart = λ i l. rw (z .fragments)
-            (at-set-in (λ (f : Fragment). distinct (take (y .sizes .ensemble) (f .bookies)) ≡ true) (y .fragments) (z .place) i new no-fragment (z .inside)
+        apart = λ i l. rw (spot .fragments)
+            (at-set-in (λ (f : Fragment). distinct (take (y .sizes .ensemble) (f .bookies)) ≡ true) (y .fragments) (spot .place) i newest no-fragment (spot .inside)
             (λ _. ap distinct (take-of-set (y .sizes .ensemble) (last-fragment y .bookies) p b)
             ∙ distinct-set (take (y .sizes .ensemble) (last-fragment y .bookies)) p b (h .apart (y .count - 1) last)
             (not-true (member b (take (y .sizes .ensemble) (last-fragment y .bookies))) free))
@@ -426,8 +426,8 @@ module _ (y : Layout) (n p b : ℕ) (room : room-for y n ≡ true) where
       last : y .count - 1 < y .count
       last = let s = y .some in omega arith
 
-      within : (i : ℕ) → i < changed-layout y n p b .count → (i ≡ z .place → ⊥) → i < y .count
-      within i l ne = let c = z .count in let v = z .within in omega arith
+      within : (i : ℕ) → i < changed-layout y n p b .count → (i ≡ spot .place → ⊥) → i < y .count
+      within i l ne = let c = spot .count in let v = spot .within in omega arith
 
   -- pending entries lose the mark at the position that changes
   changed-pending : (ts : List Body) (A : ℕ → ℕ → Bool) (e : ℕ) (ps : List PendingAdd) → n ≤ e → last-first y ≤ n → PendingOk ts A y e ps
@@ -441,7 +441,7 @@ module _ (y : Layout) (n p b : ℕ) (room : room-for y n ≡ true) where
     changed-pending ts A (suc e) ps (omega arith) h (g .2),
   )
 
--- what goes to the new bookie carries its content
+-- what goes to the newest bookie carries its content
 adds-at-ok : (x : World) (u y : Layout) (l : LedgerId) (n q : ℕ) (b : BookieId) (e : ℕ) (ps : List PendingAdd) → n ≤ x .writer (l .0) .lac
     → PendingOk (x .contents (l .0)) (x .acked (l .0)) u e ps → All (MessageOk x) (adds-at y l n q b e ps)
 adds-at-ok x u y l n q b e [] k h = tt

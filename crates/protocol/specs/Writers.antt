@@ -8,7 +8,7 @@ use Rattle.std.specs.declared.option.Option.{Option}
 use Rattle.std.specs.declared.option.Option.the-variants.{Some, None}
 use Rattle.std.specs.declared.result.Result.{Result}
 use Rattle.std.specs.declared.result.Result.the-variants.{Ok, Err}
-use Rattle.ledgers.specs.Limits.{max-entries}
+use Rattle.ledgers.specs.Limits.{max-entries, max-pending}
 use Rattle.ledgers.specs.Ids.{bookie-id, entry-id, lac-id, version-id}
 use Rattle.ledgers.specs.declared.bodies.Body.{Body}
 use Rattle.ledgers.specs.declared.ids.BookieId.{BookieId}
@@ -50,28 +50,28 @@ no-writer = record { state = state.Absent; layout = no-layout; version = 0; lac 
 abbrev pub new-writer : Layout → Writer
 new-writer y = record { state = state.Writing; layout = y; version = 1; lac = 0; pending = [] }
 
--- there is such a ledger
+-- it has a ledger
 abbrev pub is-made : WriterState → Bool
 is-made state.Absent = false
 is-made state.Writing = true
 is-made state.Fenced = true
 is-made state.Closed = true
 
--- a recovery took it over
+-- a recovery took its ledger over
 abbrev pub is-shut-out : WriterState → Bool
 is-shut-out state.Absent = false
 is-shut-out state.Writing = false
 is-shut-out state.Fenced = true
 is-shut-out state.Closed = false
 
--- its writer closed it
+-- it closed its ledger
 abbrev pub is-closed : WriterState → Bool
 is-closed state.Absent = false
 is-closed state.Writing = false
 is-closed state.Fenced = false
 is-closed state.Closed = true
 
--- neither
+-- it appends, and hears replies
 abbrev pub is-writing : WriterState → Bool
 is-writing state.Absent = false
 is-writing state.Writing = true
@@ -106,9 +106,9 @@ adds y l e n p = adds-to y l e n p (write-set (y .sizes) e)
 abbrev pub next-entry : Writer → ℕ
 next-entry w = w .lac + length (w .pending)
 
--- fewer than 16 are pending, and there is a next entry
+-- there is a place for one more pending add, and there is a next entry
 abbrev pub has-room : Writer → Bool
-has-room w = ltb (length (w .pending)) 16 && ltb (next-entry w) max-entries
+has-room w = ltb (length (w .pending)) max-pending && ltb (next-entry w) max-entries
 
 -- a pending add that nobody acknowledged yet
 abbrev pub new-add : Body → PendingAdd
