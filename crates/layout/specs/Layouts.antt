@@ -1,13 +1,13 @@
 -- Fragments, the one that an entry belongs to, and the change of a layout.
-use Prim.Native.Nat.{ℕ, zero, suc, min, _-_, _≤_}
-use mathlib.Core.Path.{refl, _∙_}
+use Prim.Native.Nat.{ℕ, zero, suc, min, _-_, _≤_, _<_}
+use mathlib.Core.Path.{_≡_, refl, _∙_}
 use mathlib.Core.Bool.{Bool, cond, _||_}
 use mathlib.Core.List.{List, [], _∷_, map}
 use native.Mathlib.Omega.{arith}
 use lib.Dec.{leb, ltb, eqb, lit≤}
 use lib.ListN.{getD, set, replicate, length-set}
 use Rattle.std.proofs.shelf.Tests.{cond-both}
-use Rattle.ledgers.specs.Limits.{max-ensemble, max-fragments}
+use Rattle.ledgers.specs.Limits.{max-entries, max-ensemble, max-fragments}
 use Rattle.ledgers.specs.Ids.{entry-id}
 use Rattle.layout.specs.Sizes.{sizes-of}
 use Rattle.layout.specs.WriteSets.{write-set}
@@ -39,6 +39,12 @@ last-fragment y = getD (y .fragments) (y .count - 1) no-fragment
 -- the first entry of the last fragment
 abbrev pub last-first : Layout → ℕ
 last-first y = last-fragment y .first .0
+
+-- the fragments rise from entry 0 on, and the last begins with an entry that there can be, or behind them all
+pub record Rises (y : Layout) : Type 0 where
+  pub first : getD (y .fragments) 0 no-fragment .first .0 ≡ 0
+  pub rising : (i : ℕ) → suc i < y .count → getD (y .fragments) i no-fragment .first .0 < getD (y .fragments) (suc i) no-fragment .first .0
+  pub last : last-first y ≤ max-entries
 
 -- the bookie at position p, for entry e
 abbrev pub bookie-at : Layout → ℕ → ℕ → ℕ

@@ -139,10 +139,10 @@ bookies-apart y h e =
     (positions-distinct (y .sizes .write) e (y .sizes .ensemble) (y .sizes .written))
   where
     full : y .sizes .ensemble ≤ length (fragment-of y e .bookies)
-    full = of-fragment (y .fragments) (λ f. y .sizes .ensemble ≤ length (f .bookies)) (y .count) e (h .first) (y .some) (h .full)
+    full = of-fragment (y .fragments) (λ f. y .sizes .ensemble ≤ length (f .bookies)) (y .count) e (h .rises .first) (y .some) (h .full)
 
     apart : distinct (take (y .sizes .ensemble) (fragment-of y e .bookies)) ≡ true
-    apart = of-fragment (y .fragments) (λ f. distinct (take (y .sizes .ensemble) (f .bookies)) ≡ true) (y .count) e (h .first) (y .some) (h .apart)
+    apart = of-fragment (y .fragments) (λ f. distinct (take (y .sizes .ensemble) (f .bookies)) ≡ true) (y .count) e (h .rises .first) (y .some) (h .apart)
 
     one : (i j : ℕ) → i < y .sizes .ensemble → j < y .sizes .ensemble → bookie-at y e i ≡ bookie-at y e j → i ≡ j
     one i j k l q =
@@ -154,7 +154,7 @@ bookies-apart y h e =
 pub first-layout-ok : (s : Sizes) (bs : List ℕ) → s .ensemble ≤ length bs → distinct (take (s .ensemble) bs) ≡ true → LayoutOk (first-layout s bs)
 first-layout-ok s bs full apart =
     record {
-      first = refl;
+      rises = record { first = refl; rising = λ i l. let v : ⊥ = omega arith in absurd v; last = omega arith };
       full = λ i l. let o : 0 ≡ i = omega arith in
           subst (λ (k : ℕ). s .ensemble ≤ length (getD (first-layout s bs .fragments) k no-fragment .bookies)) o full;
       apart = λ i l. let o : 0 ≡ i = omega arith in

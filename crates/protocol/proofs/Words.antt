@@ -495,6 +495,7 @@ law h c (spaces, changes, room, run) =
             λ body a. one-content (contents-of (notes h) (x .ledger .0)) (x .entry .0) body (x .body) (appended-is c₀ i₀ run (x .ledger) (x .entry) body a) (k .0),
           ))
           (bookie-of c b .entries) (i .copies b);
+      fragments = λ l. i .metadata (l .0) .layout .rises;
       shut = λ h₁ c₁ r l e body (s₁, k₁, m₁, r₁) on. shut-run (empty s₁ k₁ m₁) (empty-inv s₁ k₁ m₁) h₁ c₁ h c r l e body r₁ on;
     }
   where

@@ -13,7 +13,7 @@ use Rattle.ledgers.specs.declared.bodies.Body.{Body}
 use Rattle.ledgers.specs.declared.steps.Step.{Step}
 use Rattle.ledgers.specs.declared.steps.Step.the-variants.{Create, Append, Resend, ChangeEnsemble, Close, Recover, AskAgain, Finish, Deliver, Duplicate, Discard, Stop, Start}
 use Rattle.layout.specs.WriteSets.{tally, marked, blocking, distinct}
-use Rattle.layout.specs.Layouts.{no-fragment, last-first, bookie-at, bookies-of}
+use Rattle.layout.specs.Layouts.{no-fragment, last-first, Rises, bookie-at, bookies-of}
 use Rattle.layout.specs.declared.fragments.Layout.{Layout}
 use Rattle.messages.specs.Blanks.{no-body}
 use Rattle.messages.specs.declared.entries.Held.{Held}
@@ -183,9 +183,9 @@ PendingOk ts A y e [] = length ts ≡ e
 PendingOk ts A y e (p ∷ ps) =
     ContentAt ts e (p .body) × ((q : ℕ) → marked (p .marks) q ≡ true → A e (bookie-at y e q) ≡ true) × PendingOk ts A y (suc e) ps
 
--- the first fragment starts at entry 0, and each has different bookies
+-- the fragments rise, and each has different bookies
 pub record LayoutOk (y : Layout) : Type 0 where
-  pub first : getD (y .fragments) 0 no-fragment .first .0 ≡ 0
+  pub rises : Rises y
   pub full : (i : ℕ) → i < y .count → y .sizes .ensemble ≤ length (getD (y .fragments) i no-fragment .bookies)
   pub apart : (i : ℕ) → i < y .count → distinct (take (y .sizes .ensemble) (getD (y .fragments) i no-fragment .bookies)) ≡ true
 

@@ -27,7 +27,7 @@ use Rattle.ledgers.specs.declared.ids.Position.{Position}
 use Rattle.ledgers.specs.declared.steps.Step.the-variants.{Create, Append, Resend, ChangeEnsemble, Close}
 use Rattle.layout.specs.Sizes.{made-sizes}
 use Rattle.layout.specs.WriteSets.{write-set, tally, marked, member, distinct}
-use Rattle.layout.specs.Layouts.{no-fragment, fragment-below, fragment-of, last-fragment, last-first, bookie-at, bookies-of, first-layout, alters, room-for, changed-fragment, changed-layout}
+use Rattle.layout.specs.Layouts.{no-fragment, fragment-below, fragment-of, last-fragment, last-first, Rises, bookie-at, bookies-of, first-layout, alters, room-for, changed-fragment, changed-layout}
 use Rattle.layout.specs.declared.sizes.Sizes.{Sizes}
 use Rattle.layout.specs.declared.fragments.Fragment.{Fragment}
 use Rattle.layout.specs.declared.fragments.Layout.{Layout}
@@ -331,6 +331,7 @@ record ChangedAt (y : Layout) (n p b : ℕ) : Type 0 where
   below : (e : ℕ) → e < n → fragment-below (y .fragments) place e ≡ fragment-of y e
   within : place ≤ y .count
   start : place ≡ 0 → n ≡ getD (y .fragments) 0 no-fragment .first .0
+  after : Rises y → last-first y ≤ n → (i : ℕ) → suc i ≡ place → getD (y .fragments) i no-fragment .first .0 < n
 
 -- altered or added
 changed-at : (y : Layout) (n p b : ℕ) → room-for y n ≡ true → ChangedAt y n p b
@@ -352,6 +353,10 @@ changed-at y n p b room = by (alters y n) refl
               ∙ cond-false _ _ _ (lt-leb (last-first y) e (let z = eqb-true (last-first y) n t in omega arith)));
           within = omega arith;
           start = λ o. sym (eqb-true (last-first y) n t) ∙ ap (λ m. getD (y .fragments) m no-fragment .first .0) o;
+          after = λ rises _ i o.
+              let s = y .some in let r = rises .rising i (omega arith) in
+              let at : getD (y .fragments) (suc i) no-fragment .first .0 ≡ last-first y = ap (λ m. getD (y .fragments) m no-fragment .first .0) o in
+              let is : last-first y ≡ n = eqb-true (last-first y) n t in omega arith;
         }
     by false t =
         let r : ltb (y .count) max-fragments ≡ true = elim (or-cases (alters y n) (ltb (y .count) max-fragments) room) [ inl z ↦ absurd (both-ways (alters y n) t z) | inr z ↦ z ] in
@@ -365,6 +370,10 @@ changed-at y n p b room = by (alters y n) refl
           below = λ e h. refl;
           within = omega arith;
           start = λ o. let s = y .some in let v : ⊥ = omega arith in absurd v;
+          after = λ _ le i o.
+              let place-is : i ≡ y .count - 1 = omega arith in
+              let at : getD (y .fragments) i no-fragment .first .0 ≡ last-first y = ap (λ m. getD (y .fragments) m no-fragment .first .0) place-is in
+              let ne : last-first y ≡ n → ⊥ = eqb-false (last-first y) n t in omega arith;
         }
 
 module _ (y : Layout) (n p b : ℕ) (room : room-for y n ≡ true) where
@@ -405,13 +414,12 @@ module _ (y : Layout) (n p b : ℕ) (room : room-for y n ≡ true) where
       ∙ getD-set-same (y .fragments) (spot .place) newest no-fragment (spot .inside) in
       let g = ap (λ (h : Fragment). h .first .0) f in omega arith
 
-  -- the bookies stay different
-  changed-ok : LayoutOk y → not (member b (take (y .sizes .ensemble) (last-fragment y .bookies))) ≡ true → LayoutOk (changed-layout y n p b)
+  -- the fragments still rise, and their bookies stay different
+  changed-ok : LayoutOk y → last-first y ≤ n → n ≤ max-entries → not (member b (take (y .sizes .ensemble) (last-fragment y .bookies))) ≡ true → LayoutOk (changed-layout y n p b)
   unfolding newest
-  changed-ok h free =
+  changed-ok h le few free =
       record {
-        first = rw (spot .fragments)
-            (at-set-in (λ (f : Fragment). f .first .0 ≡ 0) (y .fragments) (spot .place) 0 newest no-fragment (spot .inside) (λ o. spot .start (sym o) ∙ h .first) (λ _. h .first));
+        rises = record { first = first; rising = λ i l. rw (spot .fragments) (rising i l); last = let f = changed-first in omega arith };
         full = λ i l. rw (spot .fragments)
             (at-set-in (λ (f : Fragment). y .sizes .ensemble ≤ length (f .bookies)) (y .fragments) (spot .place) i newest no-fragment (spot .inside)
             (λ _. let e = length-set (last-fragment y .bookies) p b in let v = h .full (y .count - 1) last in omega arith) (λ ne. h .full i (within i l ne)));
@@ -428,6 +436,21 @@ module _ (y : Layout) (n p b : ℕ) (room : room-for y n ≡ true) where
 
       within : (i : ℕ) → i < changed-layout y n p b .count → (i ≡ spot .place → ⊥) → i < y .count
       within i l ne = let c = spot .count in let v = spot .within in omega arith
+
+      first : getD (changed-layout y n p b .fragments) 0 no-fragment .first .0 ≡ 0
+      first =
+          rw (spot .fragments)
+          (at-set-in (λ (f : Fragment). f .first .0 ≡ 0) (y .fragments) (spot .place) 0 newest no-fragment (spot .inside)
+          (λ o. spot .start (sym o) ∙ h .rises .first) (λ _. h .rises .first))
+
+      rising : (i : ℕ) → suc i < changed-layout y n p b .count
+          → getD (set (y .fragments) (spot .place) newest) i no-fragment .first .0 < getD (set (y .fragments) (spot .place) newest) (suc i) no-fragment .first .0
+      rising i l =
+          let c = spot .count in
+          subst (λ (f : Fragment). f .first .0 < getD (set (y .fragments) (spot .place) newest) (suc i) no-fragment .first .0)
+          (sym (getD-set-other (y .fragments) (spot .place) i newest no-fragment (λ o. omega arith)))
+          (at-set-in (λ (f : Fragment). getD (y .fragments) i no-fragment .first .0 < f .first .0) (y .fragments) (spot .place) (suc i) newest no-fragment (spot .inside)
+          (λ o. spot .after (h .rises) le i o) (λ ne. h .rises .rising i (within (suc i) l ne)))
 
   -- pending entries lose the mark at the position that changes
   changed-pending : (ts : List Body) (A : ℕ → ℕ → Bool) (e : ℕ) (ps : List PendingAdd) → n ≤ e → last-first y ≤ n → PendingOk ts A y e ps
@@ -495,7 +518,7 @@ change-keeps {x₀} ns c l p b i =
         inL = ledger-row (c .store .ledgers) (l .0) (i .ledgers) q30
 
         ok : LayoutOk y
-        ok = changed-ok (w .layout) (w .lac) (p .0) (b .0) room (old .layout) free
+        ok = changed-ok (w .layout) (w .lac) (p .0) (b .0) room (old .layout) (old .first) (let u = old .upto in let v = old .small in omega arith) free
 
         firm : (e : ℕ) → e < w .lac → y .sizes .ack ≤ tally (acked-by ns (l .0) e) (bookies-of y e)
         firm e k =

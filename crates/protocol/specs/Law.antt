@@ -11,7 +11,7 @@ use Rattle.ledgers.specs.declared.ids.LedgerId.{LedgerId}
 use Rattle.ledgers.specs.declared.ids.RecovererId.{RecovererId}
 use Rattle.ledgers.specs.declared.ids.Version.{Version}
 use Rattle.layout.specs.WriteSets.{tally, distinct}
-use Rattle.layout.specs.Layouts.{bookies-of}
+use Rattle.layout.specs.Layouts.{Rises, bookies-of}
 use Rattle.layout.specs.declared.fragments.Layout.{Layout}
 use Rattle.messages.specs.declared.entries.Held.{Held}
 use Rattle.messages.specs.declared.metadata.LedgerState.the-variants.{InRecovery, Closed}
@@ -65,6 +65,8 @@ pub record Word (h : History) (c : Cluster) : Type 0 where
   pub kept : (l : LedgerId) (e : EntryId) → IsClosed c l → UpToClose c l e → AckQuorumHolds c l e
   -- every copy in any bookie is true
   pub copies : (b : ℕ) → All (TrueCopy h) (bookie-of c b .entries)
+  -- the fragments of every ledger rise from entry 0 on
+  pub fragments : (l : LedgerId) → Rises (layout-of c l)
   -- once the fence round of a recovery was covered, no entry appended to that ledger afterwards is ever confirmed
   pub shut : (h₁ : History) (c₁ : Cluster) (r : RecovererId) (l : LedgerId) (e : EntryId) (body : Body)
       → Reached h₁ c₁ → Runs h₁ c₁ h c → Covered h₁ c₁ r l
