@@ -12,3 +12,4 @@ pub mod RecovererSteps
 pub mod Runs
 pub mod Words
 pub mod Rounds
+pub mod Onward

@@ -1,6 +1,7 @@
 -- What holds after every list of steps from a cluster set up empty.
 use mathlib.Core.Path.{_≡_}
 use mathlib.Core.Bool.{Bool, true, false}
+use mathlib.Core.List.{_∷_}
 use mathlib.Core.Logic.{_⊎_}
 use Prim.Native.Nat.{ℕ, _≤_, _<_}
 use Rattle.std.specs.shelf.Lists.{All}
@@ -10,6 +11,7 @@ use Rattle.ledgers.specs.declared.ids.Lac.{Lac}
 use Rattle.ledgers.specs.declared.ids.LedgerId.{LedgerId}
 use Rattle.ledgers.specs.declared.ids.RecovererId.{RecovererId}
 use Rattle.ledgers.specs.declared.ids.Version.{Version}
+use Rattle.ledgers.specs.declared.steps.Step.{Step}
 use Rattle.layout.specs.WriteSets.{tally, distinct}
 use Rattle.layout.specs.Layouts.{Rises, bookies-of}
 use Rattle.layout.specs.declared.fragments.Layout.{Layout}
@@ -18,8 +20,8 @@ use Rattle.messages.specs.declared.metadata.LedgerState.the-variants.{InRecover
 use Rattle.protocol.specs.Bookies.{holds}
 use Rattle.protocol.specs.Recoverers.{at-work, is-ended}
 use Rattle.protocol.specs.Clusters.{Cluster, bookie-of, recoverer-of, phase-of, recovering, layout-read, ledger-of}
-use Rattle.protocol.specs.Steps.{finish}
-use Rattle.protocol.specs.Histories.{History, Runs, Reached, Once, Appended, Confirmed, ClosedWith, Covered}
+use Rattle.protocol.specs.Steps.{finish, step}
+use Rattle.protocol.specs.Histories.{History, event, Runs, Reached, Once, Appended, Confirmed, ClosedWith, Covered}
 use Rattle.protocol.specs.declared.answers.Answer.{Answer}
 use Rattle.protocol.specs.declared.answers.Answer.the-variants as answer
 use Rattle.protocol.specs.declared.recoverers.Phase.{Phase}
@@ -105,3 +107,11 @@ pub record Rounds (h : History) (c : Cluster) : Type 0 where
 -- after every list of steps
 abbrev pub RoundsLaw : Type 0
 RoundsLaw = (h : History) (c : Cluster) → Reached h c → Rounds h c
+
+-- with every history that reached c, step s reaches c′, and all of this holds there
+abbrev pub GoesOn : Cluster → Step → Cluster → Type 0
+GoesOn c s c′ = (h : History) → Reached h c → Reached (event c s ∷ h) c′ × Word (event c s ∷ h) c′ × Rounds (event c s ∷ h) c′
+
+-- every step goes on
+abbrev pub StepsGoOn : Type 0
+StepsGoOn = (c : Cluster) (s : Step) → GoesOn c s (step c s .next)
