@@ -13,3 +13,4 @@ pub mod Runs
 pub mod Words
 pub mod Rounds
 pub mod Onward
+pub mod Refusals

@@ -20,6 +20,7 @@ use Rattle.messages.specs.declared.metadata.LedgerState.the-variants.{InRecover
 use Rattle.protocol.specs.Bookies.{holds}
 use Rattle.protocol.specs.Recoverers.{at-work, is-ended}
 use Rattle.protocol.specs.Clusters.{Cluster, bookie-of, recoverer-of, phase-of, recovering, layout-read, ledger-of}
+use Rattle.protocol.specs.Answers.{is-accepted}
 use Rattle.protocol.specs.Steps.{finish, step}
 use Rattle.protocol.specs.Histories.{History, event, Runs, Reached, Once, Appended, Confirmed, ClosedWith, Covered}
 use Rattle.protocol.specs.declared.answers.Answer.{Answer}
@@ -115,3 +116,7 @@ GoesOn c s c′ = (h : History) → Reached h c → Reached (event c s ∷ h) c�
 -- every step goes on
 abbrev pub StepsGoOn : Type 0
 StepsGoOn = (c : Cluster) (s : Step) → GoesOn c s (step c s .next)
+
+-- a step that is refused leaves the cluster as it was
+abbrev pub RefusalsAlterNothing : Type 0
+RefusalsAlterNothing = (c : Cluster) (s : Step) → is-accepted (step c s .answer) ≡ false → step c s .next ≡ c
