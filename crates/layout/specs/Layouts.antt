@@ -1,12 +1,13 @@
 -- Fragments, the one that an entry belongs to, and the change of a layout.
-use Prim.Native.Nat.{ℕ, zero, suc, min, _-_, _≤_}
-use mathlib.Core.Path.{refl, _∙_}
+use Prim.Native.Nat.{ℕ, zero, suc, min, _-_, _≤_, _<_}
+use mathlib.Core.Path.{_≡_, refl, _∙_}
 use mathlib.Core.Bool.{Bool, cond, _||_}
 use mathlib.Core.List.{List, [], _∷_, map}
 use native.Mathlib.Omega.{arith}
 use lib.Dec.{leb, ltb, eqb, lit≤}
 use lib.ListN.{getD, set, replicate, length-set}
 use Rattle.std.proofs.shelf.Tests.{cond-both}
+use Rattle.ledgers.specs.Limits.{max-entries, max-ensemble, max-fragments}
 use Rattle.ledgers.specs.Ids.{entry-id}
 use Rattle.layout.specs.Sizes.{sizes-of}
 use Rattle.layout.specs.WriteSets.{write-set}
@@ -18,8 +19,9 @@ use Rattle.layout.specs.declared.fragments.Layout.{Layout}
 abbrev pub no-fragment : Fragment
 no-fragment = record { first = entry-id 0; bookies = [] }
 
+-- zeros from entry 0 on
 abbrev pub blank-fragment : Fragment
-blank-fragment = record { first = entry-id 0; bookies = replicate 5 0 }
+blank-fragment = record { first = entry-id 0; bookies = replicate max-ensemble 0 }
 
 -- the last of the first n fragments whose first entry is not above e
 abbrev pub fragment-below : List Fragment → ℕ → ℕ → Fragment
@@ -30,12 +32,19 @@ fragment-below fs (suc n) e = cond (leb (getD fs n no-fragment .first .0) e) (ge
 abbrev pub fragment-of : Layout → ℕ → Fragment
 fragment-of y e = fragment-below (y .fragments) (y .count) e
 
+-- the fragment that the next entries belong to
 abbrev pub last-fragment : Layout → Fragment
 last-fragment y = getD (y .fragments) (y .count - 1) no-fragment
 
 -- the first entry of the last fragment
 abbrev pub last-first : Layout → ℕ
 last-first y = last-fragment y .first .0
+
+-- the fragments rise from entry 0 on, and the last begins with an entry that there can be, or behind them all
+pub record Rises (y : Layout) : Type 0 where
+  pub first : getD (y .fragments) 0 no-fragment .first .0 ≡ 0
+  pub rising : (i : ℕ) → suc i < y .count → getD (y .fragments) i no-fragment .first .0 < getD (y .fragments) (suc i) no-fragment .first .0
+  pub last : last-first y ≤ max-entries
 
 -- the bookie at position p, for entry e
 abbrev pub bookie-at : Layout → ℕ → ℕ → ℕ
@@ -59,7 +68,7 @@ first-layout s bs =
 
 -- no ledger's layout
 abbrev pub no-layout : Layout
-no-layout = first-layout (sizes-of 1 1 1) (replicate 5 0)
+no-layout = first-layout (sizes-of 1 1 1) (replicate max-ensemble 0)
 
 -- a change -----------------------------------------------------------------------------------------------------------
 -- a change from entry n on alters the last fragment where n is its first entry, and else adds one
@@ -68,18 +77,21 @@ alters y n = eqb (last-first y) n
 
 -- there is a place for what the change makes
 abbrev pub room-for : Layout → ℕ → Bool
-room-for y n = alters y n || ltb (y .count) 8
+room-for y n = alters y n || ltb (y .count) max-fragments
 
 -- from entry n on, bookie b at position p
 abbrev pub changed-fragment : Fragment → ℕ → ℕ → ℕ → Fragment
 changed-fragment f n p b = record { first = entry-id n; bookies = set (f .bookies) p b }
 
+-- where the changed fragment goes
 abbrev pub changed-place : Layout → ℕ → ℕ
 changed-place y n = cond (alters y n) (y .count - 1) (y .count)
 
+-- how many fragments there are then
 abbrev pub changed-count : Layout → ℕ → ℕ
-changed-count y n = cond (alters y n) (y .count) (min 8 (suc (y .count)))
+changed-count y n = cond (alters y n) (y .count) (min max-fragments (suc (y .count)))
 
+-- the layout with bookie b at position p from entry n on
 abbrev pub changed-layout : Layout → ℕ → ℕ → ℕ → Layout
 changed-layout y n p b =
     record {
@@ -87,6 +99,6 @@ changed-layout y n p b =
       fragments = set (y .fragments) (changed-place y n) (changed-fragment (last-fragment y) n p b);
       count = changed-count y n;
       eight = length-set (y .fragments) (changed-place y n) (changed-fragment (last-fragment y) n p b) ∙ y .eight;
-      some = cond-both (alters y n) (y .count) (min 8 (suc (y .count))) (λ k. 1 ≤ k) (λ _. y .some) (λ _. omega arith);
-      few = cond-both (alters y n) (y .count) (min 8 (suc (y .count))) (λ k. k ≤ 8) (λ _. y .few) (λ _. omega arith);
+      some = cond-both (alters y n) (y .count) (min max-fragments (suc (y .count))) (λ k. 1 ≤ k) (λ _. y .some) (λ _. omega arith);
+      few = cond-both (alters y n) (y .count) (min max-fragments (suc (y .count))) (λ k. k ≤ 8) (λ _. y .few) (λ _. omega arith);
     }

@@ -4,6 +4,7 @@ use mathlib.Core.Bool.{Bool, true, false, cond, _&&_}
 use mathlib.Core.List.{List, [], _∷_}
 use lib.Dec.{leb, eqb}
 use lib.ListN.{getD, set, replicate}
+use Rattle.ledgers.specs.Limits.{max-ensemble}
 use Rattle.layout.specs.declared.sizes.Sizes.{Sizes}
 
 -- n positions of an ensemble of m, from that of entry e on
@@ -24,11 +25,13 @@ abbrev pub tally : {A : Type 0} → (A → Bool) → List A → ℕ
 tally t [] = 0
 tally t (x ∷ xs) = cond (t x) (suc (tally t xs)) (tally t xs)
 
+-- position p is marked
 abbrev pub marked : List Bool → ℕ → Bool
 marked m p = getD m p false
 
+-- no position is marked
 abbrev pub no-marks : List Bool
-no-marks = replicate 5 false
+no-marks = replicate max-ensemble false
 
 -- of a write set, so many positions that do not acknowledge leave no ack quorum: W - K + 1
 abbrev pub blocking : Sizes → ℕ

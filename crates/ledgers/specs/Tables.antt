@@ -6,6 +6,7 @@ use mathlib.Core.List.{List}
 use lib.Dec.{eqb}
 use lib.ListN.{length, getD, set}
 
+-- the row of number n
 abbrev pub row : {A : Type 0} → List A → ℕ → ℕ
 row xs n = cond (eqb n 0) (length xs) (n - 1)
 

@@ -11,9 +11,11 @@ use Rattle.messages.specs.declared.messages.Message.the-variants.{Fence}
 use Rattle.messages.specs.declared.metadata.LedgerState.the-variants.{Open}
 use Rattle.messages.specs.declared.metadata.Metadata.{Metadata}
 
+-- an empty content
 abbrev pub no-body : Body
 no-body = body-of []
 
+-- the first kind of message, with zeros
 abbrev pub no-message : Message
 no-message = Fence (recoverer-id 0) (ledger-id 0) (bookie-id 0)
 

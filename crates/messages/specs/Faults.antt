@@ -23,6 +23,7 @@ abbrev pub and-then : {A B F : Type 0} → Result A F → Result B F → Result 
 and-then (Ok a) r = r
 and-then (Err f) r = Err f
 
+-- 20 to 24, in the order of the questions
 abbrev pub bookie-number : BookieFault → ℕ
 bookie-number bookie.Range = 20
 bookie-number bookie.Stopped = 21
@@ -30,6 +31,7 @@ bookie-number bookie.Fenced = 22
 bookie-number bookie.OtherBody = 23
 bookie-number bookie.Full = 24
 
+-- 30 to 33, in the order of the questions
 abbrev pub store-number : StoreFault → ℕ
 store-number store.Range = 30
 store-number store.Existence = 31

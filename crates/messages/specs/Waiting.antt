@@ -9,6 +9,7 @@ pub record Queue : Type 0 where
   pub room : ℕ
   pub waiting : List Message
 
+-- one message more
 abbrev pub sent-one : Queue → Message → Queue
 sent-one q m = record { room = q .room; waiting = posted (q .room) (q .waiting) m }
 
@@ -17,5 +18,6 @@ abbrev pub sent : Queue → List Message → Queue
 sent q [] = q
 sent q (m ∷ ms) = sent (sent-one q m) ms
 
+-- the message at place i is taken off
 abbrev pub without : Queue → ℕ → Queue
 without q i = record { room = q .room; waiting = taken-off (q .waiting) i }

@@ -26,6 +26,7 @@ use Rattle.protocol.proofs.World.{Note, contents-of, acked-by, World, world, C
 use Rattle.protocol.proofs.Lasting.{copies-later, under-shut, ledger-later, writer-more, inv-later}
 
 -- messages and recoverers --------------------------------------------------------------------------------------------
+-- other true messages wait
 pub with-messages : {x₀ x : World} {rs : ℕ → Recoverer} {ms : List Message} (new : List Message) → Inv x₀ x rs ms → All (MessageOk x) new → Inv x₀ x rs new
 with-messages new i h =
     record {
@@ -41,9 +42,11 @@ with-messages new i h =
       ledgers = i .ledgers;
     }
 
+-- true messages are sent
 pub sent-inv : {x₀ : World} (ns : List Note) (c : Cluster) (new : List Message) → InvAt x₀ ns c → All (MessageOk (world ns c)) new → InvAt x₀ ns (send c new)
 sent-inv ns c new i h = with-messages (sent (c .queue) new .waiting) i (all-sent (MessageOk (world ns c)) (c .queue) new (i .messages) h)
 
+-- one recoverer changes
 pub recoverer-inv : {x₀ : World} (ns : List Note) (c : Cluster) (r : ℕ) (R : Recoverer) → InvAt x₀ ns c → RecovererOk (world ns c) R
     → InvAt x₀ ns (with-recoverer c r R)
 recoverer-inv ns c r R i h =
@@ -67,9 +70,11 @@ pub record Grows (B C : Bookie) : Type 0 where
   pub fenced : (l : ℕ) → is-fenced B l ≡ true → is-fenced C l ≡ true
   pub flags : length (C .fences) ≡ length (B .fences)
 
+-- a bookie that does not change
 pub grows-same : (B : Bookie) → Grows B B
 grows-same B = record { held = λ l e h. h; fenced = λ l h. h; flags = refl }
 
+-- the world with other bookies and acknowledgements
 abbrev with-bookies : World → (ℕ → Bookie) → (ℕ → ℕ → ℕ → Bool) → World
 with-bookies x bs ak =
     record
@@ -95,6 +100,7 @@ bookies-later x bs ak g m f =
       ledgers = refl;
     }
 
+-- so the invariant is kept
 pub bookies-inv : {x₀ : World} (x : World) (bs : ℕ → Bookie) (ak : ℕ → ℕ → ℕ → Bool) {rs : ℕ → Recoverer} {ms : List Message}
     → Later x (with-bookies x bs ak) → Inv x₀ x rs ms → ((b : ℕ) → All (CopyOk x) (bs b .entries))
     → ((l e b : ℕ) → ak l e b ≡ true → holds (bs b) l e ≡ true) → Inv x₀ (with-bookies x bs ak) rs ms
@@ -121,6 +127,7 @@ pub record Advances (w w′ : Writer) : Type 0 where
   pub lac : w .lac ≤ w′ .lac
   pub layout : w′ .layout ≡ w .layout
 
+-- a writer that does not change
 pub advances-same : (w : Writer) → Advances w w
 advances-same w = record { lac = omega arith; layout = refl }
 
@@ -152,6 +159,7 @@ writer-later ns ks c l w′ a ts same =
     all : (k : ℕ) → Advances (writer-of c k) (writer-of (with-writer c l w′) k)
     all k = number-rel Advances advances-same (c .writers) l k w′ no-writer a
 
+-- one writer changes
 pub writer-inv : {x₀ : World} (ns : List Note) (c : Cluster) (l : ℕ) (w′ : Writer) → InvAt x₀ ns c
     → Becomes (world ns c) l (writer-of c l) w′ (ledger-of c l) → InvAt x₀ ns (with-writer c l w′)
 writer-inv ns c l w′ i h =
@@ -175,9 +183,11 @@ pub record Succeeds (m m′ : Metadata) : Type 0 where
   pub under : (v : ℕ) → Under m v → Under m′ v
   pub closed : m .state ≡ Closed → (m′ .state ≡ Closed) × (m′ .closing .0 ≡ m .closing .0)
 
+-- metadata that does not change
 pub succeeds-same : (m : Metadata) → Succeeds m m
 succeeds-same m = record { stays = λ h. h; under = λ v h. h; closed = λ h. (h, refl) }
 
+-- open is neither in recovery nor closed
 pub open-shut : (m : Metadata) → m .state ≡ Open → Shut m → ⊥
 open-shut m o (inl k) = true≢false (ap is-open (sym o ∙ k))
 open-shut m o (inr k) = true≢false (ap is-open (sym o ∙ k))
@@ -196,6 +206,7 @@ known-rel : (c : Cluster) (l k : ℕ) (m′ : Metadata) → Succeeds (ledger-of 
 known-rel c l k m′ h =
     number-rel (λ a b. Succeeds (known a) (known b)) (λ a. succeeds-same (known a)) (c .store .ledgers) l k (Some m′) None h
 
+-- the metadata of one ledger changes
 pub put-later : (ns : List Note) (c : Cluster) (l : ℕ) (m′ : Metadata) → Succeeds (ledger-of c l) m′
     → Later (world ns c) (world ns (with-store c (written (c .store) l m′)))
 put-later ns c l m′ h =
@@ -229,9 +240,11 @@ put-inv ns c l m′ s h i =
     t = put-later ns c l m′ s
 
 -- a writer and the metadata of its open ledger -----------------------------------------------------------------------
+-- the cluster after it
 abbrev pub put-by-writer : Cluster → ℕ → Writer → Metadata → Cluster
 put-by-writer c l w′ m′ = with-writer (with-store c (written (c .store) l m′)) l w′
 
+-- from open metadata, a writer puts
 pub record Puts (x : World) (l : ℕ) (w w′ : Writer) (m m′ : Metadata) : Type 0 where
   pub lac : w .lac ≤ w′ .lac
   pub was-open : m .state ≡ Open
@@ -247,11 +260,13 @@ at-both c l w′ m′ k P inW inL f g =
     (λ q. at-number-in (λ o. P w′ (known o)) (c .store .ledgers) l k (Some m′) None inL (λ _. f q) (λ ne. absurd (ne q)))
     (λ ne. at-number-in (λ o. P (writer-of c k) (known o)) (c .store .ledgers) l k (Some m′) None inL (λ q. absurd (ne q)) (λ _. g ne))
 
+-- what the put does to each ledger
 record Moves (w w′ : Writer) (m m′ : Metadata) : Type 0 where
   lac : w .lac ≤ w′ .lac
   layout : Shut m → w′ .layout ≡ w .layout
   ledger : Succeeds m m′
 
+-- the world after it is later
 pub puts-later : (ns : List Note) (c : Cluster) (l : ℕ) (w′ : Writer) (m′ : Metadata) → HasRow (c .writers) l → HasRow (c .store .ledgers) l
     → Puts (world ns c) l (writer-of c l) w′ (ledger-of c l) m′ → Later (world ns c) (world ns (put-by-writer c l w′ m′))
 puts-later ns c l w′ m′ inW inL h =
@@ -276,6 +291,7 @@ puts-later ns c l w′ m′ inW inL h =
         (record { lac = h .lac; layout = λ s. absurd (open-shut (ledger-of c l) (h .was-open) s); ledger = open-succeeds (ledger-of c l) m′ (h .was-open) }))
         (λ _. record { lac = omega arith; layout = λ _. refl; ledger = succeeds-same (ledger-of c k) })
 
+-- and keeps the invariant
 pub puts-inv : {x₀ : World} (ns : List Note) (c : Cluster) (l : ℕ) (w′ : Writer) (m′ : Metadata) → HasRow (c .writers) l → HasRow (c .store .ledgers) l
     → Puts (world ns c) l (writer-of c l) w′ (ledger-of c l) m′ → InvAt x₀ ns c → InvAt x₀ ns (put-by-writer c l w′ m′)
 puts-inv ns c l w′ m′ inW inL h i =

@@ -26,6 +26,7 @@ use Rattle.protocol.specs.declared.recoverers.Recoverer.{Recoverer}
 use Rattle.protocol.proofs.Lists.{tally-mono}
 use Rattle.protocol.proofs.World.{World, barred, held-at, Sent, CopyOk, MessageOk, PendingOk, WriterOk, Sealed, Copied, StateOk, LedgerOk, PhaseOk, Under, WorkOk, Shut, Later, Inv}
 
+-- contents stay, and LACs only rise
 pub sent-later : {x y : World} → Later x y → (l e n : ℕ) (body : Body) → Sent x l e n body → Sent y l e n body
 sent-later t l e n body h = let a : n ≤ _ = h .1 in let b = t .lac l in (t .contents l e body (h .0), omega arith)
 
@@ -44,6 +45,7 @@ barred-later {x} {y} t l e b h =
     never true q = absurd (both-ways (x .acked l e b) n (t .barred l e b f q))
     never false q = refl
 
+-- a true message stays true
 pub message-later : {x y : World} → Later x y → (m : Message) → MessageOk x m → MessageOk y m
 message-later t (Fence r l b) h = h
 message-later t (RecoveryRead r l b e) h = h
@@ -57,18 +59,22 @@ message-later t (Found r l b e n body) h = sent-later t (l .0) (e .0) (n .0) bod
 message-later t (RecoveryAdded r l b e) h = t .held (l .0) (e .0) (b .0) h
 message-later t (Refused r l b f) h = h
 
+-- copies stay true
 pub copies-later : {x y : World} → Later x y → (hs : List Held) → All (CopyOk x) hs → All (CopyOk y) hs
 copies-later {x} {y} t hs = all-weaker (CopyOk x) (CopyOk y) (λ h. sent-later t (h .ledger .0) (h .entry .0) (h .lac .0) (h .body)) hs
 
+-- what an ack quorum holds it holds on
 pub copied-later : {x y : World} → Later x y → (l n : ℕ) (u : Layout) → Copied x l n u → Copied y l n u
 copied-later {x} {y} t l n u h e k =
     let p = h e k in let q = tally-mono (held-at x l e) (held-at y l e) (bookies-of u e) (λ b. t .held l e b) in omega arith
 
+-- an entry that cannot be confirmed never can
 pub sealed-later : {x y : World} → Later x y → (l n : ℕ) (u : Layout) → Sealed x l n u → Sealed y l n u
 sealed-later t l n u (inl h) = inl h
 sealed-later {x} {y} t l n u (inr h) =
     let q = tally-mono (barred x l n) (barred y l n) (bookies-of u n) (λ b. barred-later t l n b) in inr (omega arith)
 
+-- what a recoverer knows stays so
 phase-later : {x y : World} → Later x y → (R : Recoverer) (l : ℕ) (u : Layout) (ph : Phase) → PhaseOk x R l u ph → PhaseOk y R l u ph
 phase-later t R l u Idle h = h
 phase-later t R l u (Fencing m) h = h
@@ -77,10 +83,12 @@ phase-later t R l u (Writing m) h =
     (sent-later t l (R .settled .0) (R .lac .0) (R .body) (h .0), λ q k. t .held l (R .settled .0) (bookie-at u (R .settled .0) q) (h .1 q k))
 phase-later t R l u Ended h = sealed-later t l (R .settled .0) u h
 
+-- under a recovery the ledger is not open
 pub under-shut : (m : Metadata) (v : ℕ) → Under m v → Shut m
 under-shut m v (inl h) = inl (h .0)
 under-shut m v (inr h) = inr (h .0)
 
+-- a recoverer at work keeps its facts
 work-later : {x y : World} → Later x y → (R : Recoverer) → WorkOk x R → WorkOk y R
 work-later {x} {y} t R h =
     let f = t .frozen (R .ledger .0) (under-shut (x .ledger (R .ledger .0)) (R .version .0) (h .under)) in
@@ -91,6 +99,7 @@ work-later {x} {y} t R h =
       phase = phase-later t R (R .ledger .0) (R .layout) (R .phase) (h .phase);
     }
 
+-- the facts of each state of a ledger last
 state-later : {x y : World} → Later x y → (l : ℕ) (w : Writer) (m : Metadata) (st : LedgerState) → StateOk x l w m st → StateOk y l w m st
 state-later t l w m Open h = h
 state-later t l w m InRecovery h = h
@@ -99,6 +108,7 @@ state-later {x} {y} t l w m Closed h = (
   elim (h .1) [ inl k ↦ inl k | inr k ↦ inr (k .0, sealed-later t l (m .closing .0) (w .layout) (k .1)) ],
 )
 
+-- and so those of its metadata
 pub ledger-later : {x y : World} → Later x y → (l : ℕ) (w : Writer) (m : Metadata) → LedgerOk x l w m → LedgerOk y l w m
 ledger-later t l w m h = record { free = h .free; state = state-later t l w m (m .state) (h .state); layout = h .layout }
 
@@ -108,6 +118,7 @@ pending-more : (ts : List Body) (A B : ℕ → ℕ → Bool) → ((e b : ℕ) �
 pending-more ts A B f u e [] h = h
 pending-more ts A B f u e (p ∷ ps) h = (h .0, (λ q m. f e (bookie-at u e q) (h .1 q m)), pending-more ts A B f u (suc e) ps (h .2))
 
+-- as the acknowledgements grow
 pub writer-more : (ts : List Body) (A B : ℕ → ℕ → Bool) (w : Writer) → ((e b : ℕ) → A e b ≡ true → B e b ≡ true) → WriterOk ts A w → WriterOk ts B w
 writer-more ts A B w f h =
     record {
@@ -121,6 +132,7 @@ writer-more ts A B w f h =
     }
 
 -- worlds follow one another ------------------------------------------------------------------------------------------
+-- a world is later than itself
 pub later-refl : (x : World) → Later x x
 later-refl x =
     record {
@@ -137,6 +149,7 @@ later-refl x =
       ledgers = refl;
     }
 
+-- and later than later is later
 pub later-trans : {x y z : World} → Later x y → Later y z → Later x z
 later-trans {x} {y} {z} s t =
     record {

@@ -12,3 +12,5 @@ pub mod RecovererSteps
 pub mod Runs
 pub mod Words
 pub mod Rounds
+pub mod Onward
+pub mod Refusals

@@ -12,7 +12,7 @@ use Rattle.std.specs.shelf.Lists.{All}
 use Rattle.std.proofs.shelf.Elements.{all-append, all-push, all-take, all-drop}
 use Rattle.std.proofs.shelf.Lists.{getD-past, set-past}
 use Rattle.std.proofs.shelf.Tests.{and-parts, true≢false, false≢true, cond-both, cond-false, eqb-true, ne-eqb, leb-true, cases-eq, cases-lt}
-use Rattle.ledgers.specs.Limits.{max-ledgers, is-ledger}
+use Rattle.ledgers.specs.Limits.{max-ledgers, max-ensemble, is-ledger}
 use Rattle.ledgers.specs.Tables.{row, numbered, renumbered}
 use Rattle.layout.specs.WriteSets.{write-set, tally, marked, no-marks, mark}
 use Rattle.layout.specs.Layouts.{bookie-at, bookies-of}
@@ -66,6 +66,7 @@ HasRow xs i = (1 ≤ i) × (i ≤ length xs)
 no-row : {A : Type 0} (xs : List A) (d : A) → numbered xs 0 d ≡ d
 no-row xs d = getD-past xs (length xs) d (omega arith)
 
+-- number i + 1 has row i
 row-suc : {A : Type 0} (xs : List A) (i : ℕ) → row xs (suc i) ≡ i
 row-suc xs i = cond-false (eqb (suc i) 0) (length xs) (suc i - 1) (ne-eqb (suc i) 0 (λ e. omega arith)) ∙ omega arith
 
@@ -73,18 +74,21 @@ row-suc xs i = cond-false (eqb (suc i) 0) (length xs) (suc i - 1) (ne-eqb (suc i
 in-row : {A : Type 0} (P : A → Type 0) (xs : List A) (i : ℕ) (d : A) → P (numbered xs (suc i) d) → P (getD xs i d)
 in-row P xs i d = subst (λ (k : ℕ). P (getD xs k d)) (row-suc xs i)
 
+-- what holds of a place holds of the row
 of-row : {A : Type 0} (P : A → Type 0) (xs : List A) (i j : ℕ) (a d : A) → P (getD (set xs i a) j d)
     → P (numbered (renumbered xs (suc i) a) (suc j) d)
 of-row P xs i j a d h =
     subst (λ (k : ℕ). P (getD (renumbered xs (suc i) a) k d)) (sym (row-suc (renumbered xs (suc i) a) j))
     (subst (λ (k : ℕ). P (getD (set xs k a) j d)) (sym (row-suc xs i)) h)
 
+-- what holds of each row still does after one was set
 pub at-number : {A : Type 0} (P : A → Type 0) (xs : List A) (i j : ℕ) (a d : A) → (j ≡ i → P a) → P (numbered xs j d)
     → P (numbered (renumbered xs i a) j d)
 at-number P xs zero j a d f g = subst (λ ys. P (numbered ys j d)) (sym (set-past xs (length xs) a (omega arith))) g
 at-number P xs (suc i) zero a d f g = subst P (no-row xs d ∙ sym (no-row (renumbered xs (suc i) a) d)) g
 at-number P xs (suc i) (suc j) a d f g = of-row P xs i j a d (at-set P xs i j a d (λ e. f (ap suc e)) (in-row P xs j d g))
 
+-- the same, where the row is there
 pub at-number-in : {A : Type 0} (P : A → Type 0) (xs : List A) (i j : ℕ) (a d : A) → HasRow xs i → (j ≡ i → P a)
     → ((j ≡ i → ⊥) → P (numbered xs j d)) → P (numbered (renumbered xs i a) j d)
 at-number-in P xs zero j a d h f g = let k = h .0 in let v : ⊥ = omega arith in absurd v
@@ -93,11 +97,13 @@ at-number-in P xs (suc i) (suc j) a d h f g =
     of-row P xs i j a d
     (at-set-in P xs i j a d (let k = h .1 in omega arith) (λ e. f (ap suc e)) (λ ne. in-row P xs j d (g (λ e. ne (omega arith)))))
 
+-- one row changes along R, and so each does
 pub number-rel : {A : Type 0} (R : A → A → Type 0) → ((a : A) → R a a) → (xs : List A) (i j : ℕ) (a d : A) → R (numbered xs i d) a
     → R (numbered xs j d) (numbered (renumbered xs i a) j d)
 number-rel R same xs i j a d h =
     at-number (R (numbered xs j d)) xs i j a d (λ e. subst (λ (k : ℕ). R (numbered xs k d) a) (sym e) h) (same (numbered xs j d))
 
+-- what was set is found
 pub number-same : {A : Type 0} (xs : List A) (i : ℕ) (a d : A) → HasRow xs i → numbered (renumbered xs i a) i d ≡ a
 number-same xs i a d h = at-number-in (λ b. b ≡ a) xs i i a d h (λ _. refl) (λ ne. absurd (ne refl))
 
@@ -136,18 +142,22 @@ pub all-blank : {A : Type 0} (P : A → Type 0) (n i : ℕ) (d : A) → P d → 
 all-blank P n i d h = at-replicate P n (row (replicate n d) i) d h
 
 -- waiting lists ------------------------------------------------------------------------------------------------------
+-- what holds of all holds of the rest
 pub all-taken-off : {A : Type 0} (P : A → Type 0) (xs : List A) (i : ℕ) → All P xs → All P (taken-off xs i)
 all-taken-off P xs i h = all-append P (take i xs) (drop (suc i) xs) (all-take P i xs h) (all-drop P (suc i) xs h)
 
+-- and with one message more
 pub all-sent-one : (P : Message → Type 0) (q : Queue) (m : Message) → All P (q .waiting) → P m → All P (sent-one q m .waiting)
 all-sent-one P q m h k =
     cond-both (ltb (length (q .waiting)) (q .room)) (q .waiting ++ (m ∷ [])) (q .waiting) (All P) (λ _. all-push P (q .waiting) m h k) (λ _. h)
 
+-- or with several
 pub all-sent : (P : Message → Type 0) (q : Queue) (new : List Message) → All P (q .waiting) → All P new → All P (sent q new .waiting)
 all-sent P q [] h k = h
 all-sent P q (m ∷ new) h k = all-sent P (sent-one q m) new (all-sent-one P q m h (k .0)) (k .1)
 
 -- counts -------------------------------------------------------------------------------------------------------------
+-- a weaker test passes more
 pub tally-mono : {A : Type 0} (t u : A → Bool) (xs : List A) → ((x : A) → t x ≡ true → u x ≡ true) → tally t xs ≤ tally u xs
 tally-mono t u [] h = omega arith
 tally-mono t u (x ∷ xs) h = one (t x) (u x) (h x) (tally-mono t u xs h)
@@ -159,6 +169,7 @@ tally-mono t u (x ∷ xs) h = one (t x) (u x) (h x) (tally-mono t u xs h)
     one false true f k = omega arith
     one false false f k = k
 
+-- counting what a map gives
 pub tally-map : {A B : Type 0} (t : B → Bool) (f : A → B) (xs : List A) → tally t (map f xs) ≡ tally (λ x. t (f x)) xs
 tally-map t f [] = refl
 tally-map t f (x ∷ xs) = ap (λ n. cond (t (f x)) (suc n) n) (tally-map t f xs)
@@ -186,8 +197,9 @@ mark-is P bs (p ∷ ps) b m h k =
     (λ same _. subst P (sym (ap (λ (z : ℕ). getD bs z 0) same ∙ eqb-true (getD bs p 0) b e)) k) (h q))
     (λ _. mark-is P bs ps b m h k)
 
+-- a mark was made by somebody
 pub none-marked : (q : ℕ) → marked no-marks q ≡ true → ⊥
-none-marked q h = true≢false (sym h ∙ at-replicate (λ v. v ≡ false) 5 q false refl)
+none-marked q h = true≢false (sym h ∙ at-replicate (λ v. v ≡ false) max-ensemble q false refl)
 
 -- marks on the positions of a write set count bookies of it
 pub marks-count : (t : ℕ → Bool) (y : Layout) (e : ℕ) (m : List Bool) → ((q : ℕ) → marked m q ≡ true → t (bookie-at y e q) ≡ true)

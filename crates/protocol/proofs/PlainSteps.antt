@@ -20,6 +20,7 @@ use Rattle.protocol.proofs.Questions.{ask-cases}
 use Rattle.protocol.proofs.World.{Note, World, world, MessageOk, InvAt, Keeps}
 use Rattle.protocol.proofs.Changes.{with-messages, bookie-inv}
 
+-- a message is lost
 pub discard-keeps : {x₀ : World} (ns : List Note) (c : Cluster) (m : MessagePlace) → InvAt x₀ ns c → Keeps x₀ ns c (Discard m) (discard c m)
 discard-keeps {x₀} ns c m i =
     ask-cases c (Keeps x₀ ns c (Discard m)) (waits c m) (fault.Missing 1) _ i
@@ -30,6 +31,7 @@ pub waiting-ok : {x₀ : World} (ns : List Note) (c : Cluster) (m : MessagePlace
 waiting-ok ns c m i q =
     all-getD (MessageOk (world ns c)) (c .queue .waiting) (m .0) no-message (ltb-true (m .0) (length (c .queue .waiting)) q) (i .messages)
 
+-- a message is doubled
 pub duplicate-keeps : {x₀ : World} (ns : List Note) (c : Cluster) (m : MessagePlace) → InvAt x₀ ns c → Keeps x₀ ns c (Duplicate m) (duplicate c m)
 duplicate-keeps {x₀} ns c m i =
     ask-cases c (Keeps x₀ ns c (Duplicate m)) (waits c m) (fault.Missing 1) _ i
@@ -42,8 +44,10 @@ turn-inv {x₀} ns c b u i =
     ask-cases c (λ o. InvAt x₀ ns (o .next)) (ltb (b .0) (length (c .bookies))) (fault.Missing 1) _ i
     (λ _. bookie-inv ns c (b .0) (with-up (bookie-of c (b .0)) u) i (record { held = λ l e h. h; fenced = λ l h. h; flags = refl }) (i .copies (b .0)))
 
+-- a bookie stops
 pub stop-keeps : {x₀ : World} (ns : List Note) (c : Cluster) (b : BookieId) → InvAt x₀ ns c → Keeps x₀ ns c (Stop b) (turn c b false)
 stop-keeps ns c b i = turn-inv ns c b false i
 
+-- a bookie starts
 pub start-keeps : {x₀ : World} (ns : List Note) (c : Cluster) (b : BookieId) → InvAt x₀ ns c → Keeps x₀ ns c (Start b) (turn c b true)
 start-keeps ns c b i = turn-inv ns c b true i

@@ -32,6 +32,7 @@ pub ok-not-err : {A F P : Type 0} (f : F) (a : A) → Err f ≡ Ok a → P
 ok-not-err f a h = let z : _≡_ {A = ℕ} 0 1 = cc in let v : ⊥ = omega arith in absurd v
 
 -- of bookies, stores and clients -------------------------------------------------------------------------------------
+-- one question
 pub asked : {A F : Type 0} (q : Bool) (f : F) (r : Result A F) (P : Result A F → Type 0) → P (Err f) → (q ≡ true → P r) → P (question q f r)
 asked true f r P bad good = good refl
 asked false f r P bad good = bad
@@ -41,6 +42,7 @@ pub passed : {A F : Type 0} (q : Bool) (f : F) (r : Result A F) (a : A) → ques
 passed true f r a h = (refl, h)
 passed false f r a h = ok-not-err f a h
 
+-- what follows an answer
 pub by-answer : {A F X : Type 0} (r : Result A F) (x y : X) (P : X → Type 0) → ((a : A) → r ≡ Ok a → P x) → ((f : F) → r ≡ Err f → P y)
     → P (when-ok r x y)
 by-answer (Ok a) x y P f g = f a refl
@@ -53,6 +55,7 @@ both-passed (Err f) s b h = ok-not-err f b h
 
 -- of the store, answer and store after together
 module _ (s : Store) (l : LedgerId) (P : Result Version StoreFault → Store → Type 0) where
+  -- refused, or in range and free
   pub create-cases : (y : Layout) → ((f : StoreFault) → P (Err f) s)
       → (is-ledger (l .0) ≡ true → exists s (l .0) ≡ false
       → P (Ok (version-id 1)) (written s (l .0) (record { version = version-id 1; state = Open; layout = y; closing = lac-id 0 })))
@@ -64,6 +67,7 @@ module _ (s : Store) (l : LedgerId) (P : Result Version StoreFault → Store →
       (λ q31. asked (leb 1 (s .changes)) denied.Full _ (λ r. P r (when-ok r new s)) (bad denied.Full)
       (λ _. good q30 (not-true (exists s (l .0)) q31))))
 
+  -- refused; another version; or in range and at the version expected
   pub put-cases : (v : Version) (st : LedgerState) (y : Layout) (n : Lac)
       → ((f : StoreFault) → is-version f ≡ false → P (Err f) s)
       → ((metadata-of s (l .0) .version .0 ≡ v .0 → ⊥) → P (Err denied.Version) s)
@@ -95,10 +99,12 @@ writing-asked w r P bad good =
     (λ q8. good (not-true (is-shut-out (w .state)) q7) (not-true (is-closed (w .state)) q8)))
 
 -- of steps -----------------------------------------------------------------------------------------------------------
+-- one question of a step
 pub ask-cases : (c : Cluster) (P : Outcome → Type 0) (q : Bool) (f : StepFault) (o : Outcome) → P (refuse c f) → (q ≡ true → P o) → P (ask c q f o)
 ask-cases c P true f o bad good = good refl
 ask-cases c P false f o bad good = bad
 
+-- what a client answers
 pub client-cases : {A : Type 0} (c : Cluster) (P : Outcome → Type 0) (r : Result A ClientFault) (k : A → Outcome) → ((f : StepFault) → P (refuse c f)) → ((a : A) → P (k a))
     → P (by-client c r k)
 client-cases c P (Ok a) k bad good = good a

@@ -40,6 +40,7 @@ use Rattle.protocol.proofs.Changes.{sent-inv, recoverer-inv, open-succeeds, pu
 use Rattle.protocol.proofs.Replies.{asks-ok, lac-copied}
 
 -- ask again ----------------------------------------------------------------------------------------------------------
+-- requests that were true are true again
 pub ask-again-keeps : {x₀ : World} (ns : List Note) (c : Cluster) (r : RecovererId) → InvAt x₀ ns c → Keeps x₀ ns c (AskAgain r) (ask-again c r)
 ask-again-keeps {x₀} ns c r i =
     ask-cases c (Keeps x₀ ns c (AskAgain r)) (at-work (R .phase)) (fault.Missing 1) _ i
@@ -49,6 +50,7 @@ ask-again-keeps {x₀} ns c r i =
     R = recoverer-of c (r .0)
 
 -- begin --------------------------------------------------------------------------------------------------------------
+-- a recoverer that begins has settled what is before the last fragment
 begun-inv : {x₀ : World} (ns : List Note) (c : Cluster) (r : RecovererId) (l : LedgerId) (v : Version) (y : Layout) → InvAt x₀ ns c
     → y ≡ writer-of c (l .0) .layout → Under (ledger-of c (l .0)) (v .0) → InvAt x₀ ns (begun c r (new-recoverer l v y) .next)
 begun-inv ns c r l v y i same under =
@@ -68,6 +70,7 @@ begun-inv ns c r l v y i same under =
           phase = tt;
         }
 
+-- a recovery begins
 pub recover-keeps : {x₀ : World} (ns : List Note) (c : Cluster) (r : RecovererId) (l : LedgerId) → InvAt x₀ ns c → Keeps x₀ ns c (Recover r l) (recover c r l)
 recover-keeps {x₀} ns c r l i =
     ask-cases c K (is-recoverer (r .0)) (fault.Missing 1) _ i
@@ -113,6 +116,7 @@ recover-keeps {x₀} ns c r l i =
     by Closed o q30 = i
 
 -- finish -------------------------------------------------------------------------------------------------------------
+-- the ended phase
 pub ended-is : (ph : Phase) → is-ended ph ≡ true → ph ≡ Ended
 ended-is Idle h = absurd (false≢true h)
 ended-is (Fencing m) h = absurd (false≢true h)
@@ -120,9 +124,11 @@ ended-is (Reading m) h = absurd (false≢true h)
 ended-is (Writing m) h = absurd (false≢true h)
 ended-is Ended h = refl
 
+-- an idle recoverer claims nothing
 idle-inv : {x₀ : World} (ns : List Note) (c : Cluster) (r : ℕ) → InvAt x₀ ns c → InvAt x₀ ns (with-recoverer c r no-recoverer)
 idle-inv ns c r i = recoverer-inv ns c r no-recoverer i (λ h. absurd (false≢true h))
 
+-- a recovery finishes
 pub finish-keeps : {x₀ : World} (ns : List Note) (c : Cluster) (r : RecovererId) → InvAt x₀ ns c → Keeps x₀ ns c (Finish r) (finish c r)
 finish-keeps {x₀} ns c r i =
     ask-cases c K (at-work (R .phase)) (fault.Missing 1) _ i

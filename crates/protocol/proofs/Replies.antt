@@ -44,6 +44,7 @@ use Rattle.protocol.proofs.World.{Note, acked-by, World, world, barred, held-a
 use Rattle.protocol.proofs.Changes.{sent-inv, recoverer-inv, advances-same, Becomes, writer-inv}
 
 -- to a writer --------------------------------------------------------------------------------------------------------
+-- a writer that is writing
 pub writing-is : (st : WriterState) → is-writing st ≡ true → st ≡ state.Writing
 writing-is state.Absent h = absurd (false≢true h)
 writing-is state.Writing h = refl
@@ -65,6 +66,7 @@ mark-pending ts A y e b k (p ∷ ps) a h =
     ))
     (λ _. (h .0, h .1, mark-pending ts A y e b (suc k) ps a (h .2)))
 
+-- what the writer knows of its LAC and pending adds
 record FrontOk (ts : List Body) (A : ℕ → ℕ → Bool) (y : Layout) (e : ℕ) (f : Front) : Type 0 where
   grown : e ≤ f .lac
   upto : f .lac ≤ length ts
@@ -119,9 +121,11 @@ fenced-becomes x l w m made o h k =
     }
 
 module _ (x : World) (l b e : ℕ) (w : Writer) (m : Metadata) (h : WriterOk (x .contents l) (x .acked l) w) (k : LedgerOk x l w m) where
+  -- a reply that is ignored
   same-becomes : Becomes x l w w m
   same-becomes = record { advances = advances-same w; writer = h; ledger = k }
 
+  -- a good reply
   good-becomes : w .state ≡ state.Writing → x .acked l e b ≡ true → Becomes x l w (acknowledged w b e) m
   good-becomes s g =
       let open-w : is-closed (w .state) ≡ false = ap is-closed s in
@@ -143,6 +147,7 @@ module _ (x : World) (l b e : ℕ) (w : Writer) (m : Metadata) (h : WriterOk (x 
         ledger = front-ledger x l w m _ _ (w .state) open-w open-w (λ z. z) k;
       }
 
+  -- each kind of reply
   replied-becomes : (a : Result (Unit {0}) BookieFault) → ((u : Unit {0}) → a ≡ Ok u → x .acked l e b ≡ true) → w .state ≡ state.Writing
       → Becomes x l w (replied w b e a) m
   replied-becomes (Ok u) g s = good-becomes s (g u refl)
@@ -152,10 +157,12 @@ module _ (x : World) (l b e : ℕ) (w : Writer) (m : Metadata) (h : WriterOk (x 
   replied-becomes (Err refused.OtherBody) g s = same-becomes
   replied-becomes (Err refused.Full) g s = same-becomes
 
+  -- and whether it is heard
   reply-becomes : (a : Result (Unit {0}) BookieFault) → ((u : Unit {0}) → a ≡ Ok u → x .acked l e b ≡ true) → Becomes x l w (reply-after w b e a) m
   reply-becomes a g =
       cond-both (is-writing (w .state)) (replied w b e a) w (λ v. Becomes x l w v m) (λ q. replied-becomes a g (writing-is (w .state) q)) (λ _. same-becomes)
 
+-- a reply arrives at a writer
 pub to-writer-keeps : {x₀ : World} (ns : List Note) (c : Cluster) (l : LedgerId) (b : BookieId) (e : EntryId) (a : Result (Unit {0}) BookieFault) → InvAt x₀ ns c
     → ((u : Unit {0}) → a ≡ Ok u → acked-by ns (l .0) (e .0) (b .0) ≡ true) → InvAt x₀ ns (to-writer c l b e a .next)
 to-writer-keeps ns c l b e a i g =
@@ -163,6 +170,7 @@ to-writer-keeps ns c l b e a i g =
     (reply-becomes (world ns c) (l .0) (b .0) (e .0) (writer-of c (l .0)) (ledger-of c (l .0)) (i .writing (l .0)) (i .metadata (l .0)) a g)
 
 -- requests of a recoverer --------------------------------------------------------------------------------------------
+-- what each request has, all have
 all-asks : (P : Message → Type 0) (m : List Bool) (bs : List ℕ) (f : BookieId → Message) (ps : List ℕ) → ((b : BookieId) → P (f b)) → All P (asks-to m bs f ps)
 all-asks P m bs f [] h = tt
 all-asks P m bs f (p ∷ ps) h =
@@ -207,6 +215,7 @@ module _ (x : World) (R : Recoverer) (w : WorkOk x R) where
       cond-both (leb max-entries n) Ended (Reading no-marks) (λ ph. WorkOk x (in-phase R n ph))
       (λ q. work-in n Ended h (inl (leb-true max-entries n q))) (λ _. work-in n (Reading no-marks) h (λ q m. absurd (none-marked q m)))
 
+  -- a fence answer
   fenced-work : {x₀ : World} {rs : ℕ → Recoverer} {ms : List Message} → Inv x₀ x rs ms → (m : List Bool) (b : BookieId) (n : Lac)
       → n .0 ≤ x .writer (R .ledger .0) .lac → WorkOk x (heard-fenced R m b n)
   fenced-work i m b n k =
@@ -219,9 +228,11 @@ module _ (x : World) (R : Recoverer) (w : WorkOk x R) where
           cond-both (ltb (R .settled .0) (n .0)) (n .0) (R .settled .0) (λ v. Copied x (R .ledger .0) v (R .layout))
           (λ _ e j. rw (w .same) (lac-copied i (R .ledger .0) e (omega arith))) (λ _. w .below)
 
+  -- a body was found
   found-work : (n : Lac) (body : Body) → Sent x (R .ledger .0) (R .settled .0) (n .0) body → WorkOk x (write-back R n body)
   found-work n body g = record { same = w .same; under = w .under; below = w .below; phase = (g, λ q m. absurd (none-marked q m)) }
 
+  -- the entry is absent there
   absent-work : (m : List Bool) (b : BookieId) → R .phase ≡ Reading m → barred x (R .ledger .0) (R .settled .0) (b .0) ≡ true → WorkOk x (heard-absent R m b)
   absent-work m b ph g =
       cond-both (leb (blocking (R .layout .sizes)) (hits R (entry-marks R m (b .0)))) Ended (Reading (entry-marks R m (b .0))) (λ p. WorkOk x (in-phase R (R .settled .0) p))
@@ -238,6 +249,7 @@ module _ (x : World) (R : Recoverer) (w : WorkOk x R) where
           mark-is (λ v. barred x (R .ledger .0) (R .settled .0) v ≡ true) (fragment-of (R .layout) (R .settled .0) .bookies)
           (write-set (R .layout .sizes) (R .settled .0)) (b .0) m old g
 
+  -- the entry was written back there
   written-work : (m : List Bool) (b : BookieId) → R .phase ≡ Writing m → held-at x (R .ledger .0) (R .settled .0) (b .0) ≡ true → WorkOk x (heard-written R m b)
   written-work m b ph g =
       cond-both (leb (R .layout .sizes .ack) (hits R (entry-marks R m (b .0)))) (in-phase R (next (R .settled .0)) (read-on (next (R .settled .0))))
@@ -272,6 +284,7 @@ of-hand R l e P k h =
     subst (λ (n : ℕ). P (R .ledger .0) n) (eqb-true e (R .settled .0) (p .1)) (subst (λ (n : ℕ). P n e) (eqb-true l (R .ledger .0) (p .0)) k)
 
 module _ {x₀ x : World} {rs : ℕ → Recoverer} {ms : List Message} (i : Inv x₀ x rs ms) (R : Recoverer) (h : RecovererOk x R) where
+  -- each message, while fencing,
   fencing-ok : (m : List Bool) → R .phase ≡ Fencing m → (a : Message) → MessageOk x a → RecovererOk x (while-fencing R m a)
   fencing-ok m q (Fence r l b) g = h
   fencing-ok m q (RecoveryRead r l b e) g = h
@@ -287,6 +300,7 @@ module _ {x₀ x : World} {rs : ℕ → Recoverer} {ms : List Message} (i : Inv 
   fencing-ok m q (RecoveryAdded r l b e) g = h
   fencing-ok m q (Refused r l b f) g = h
 
+  -- while reading,
   reading-ok : (m : List Bool) → R .phase ≡ Reading m → (a : Message) → MessageOk x a → RecovererOk x (while-reading R m a)
   reading-ok m q (Fence r l b) g = h
   reading-ok m q (RecoveryRead r l b e) g = h
@@ -304,6 +318,7 @@ module _ {x₀ x : World} {rs : ℕ → Recoverer} {ms : List Message} (i : Inv 
   reading-ok m q (RecoveryAdded r l b e) g = h
   reading-ok m q (Refused r l b f) g = h
 
+  -- and while writing back
   writing-ok : (m : List Bool) → R .phase ≡ Writing m → (a : Message) → MessageOk x a → RecovererOk x (while-writing R m a)
   writing-ok m q (Fence r l b) g = h
   writing-ok m q (RecoveryRead r l b e) g = h
@@ -319,6 +334,7 @@ module _ {x₀ x : World} {rs : ℕ → Recoverer} {ms : List Message} (i : Inv 
       (λ z _. written-work x R (h (ap at-work q)) m b q (of-hand R (l .0) (e .0) (λ k f. held-at x k f (b .0) ≡ true) g z)) (λ _. h)
   writing-ok m q (Refused r l b f) g = h
 
+  -- whatever the phase
   heard-ok : (a : Message) → MessageOk x a → RecovererOk x (heard R a)
   heard-ok a g = by (R .phase) refl
     where
@@ -329,6 +345,7 @@ module _ {x₀ x : World} {rs : ℕ → Recoverer} {ms : List Message} (i : Inv 
       by (Writing m) q = writing-ok m q a g
       by Ended q = h
 
+-- a reply arrives at a recoverer
 pub to-recoverer-keeps : {x₀ : World} (ns : List Note) (c : Cluster) (r : RecovererId) (m : Message) → InvAt x₀ ns c → MessageOk (world ns c) m
     → InvAt x₀ ns (to-recoverer c r m .next)
 to-recoverer-keeps ns c r m i g =

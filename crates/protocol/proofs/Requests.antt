@@ -38,6 +38,7 @@ use Rattle.protocol.proofs.World.{Note, ack-note, delivery-note, is-ack, acked
 use Rattle.protocol.proofs.Changes.{sent-inv, Grows, grows-same, bookies-later, bookies-inv, bookie-inv}
 
 -- copies of a bookie -------------------------------------------------------------------------------------------------
+-- what is held is held with one copy more
 find-more : (hs : List Held) (h : Held) (l e : ℕ) → is-there (find hs l e) ≡ true → is-there (find (hs ++ (h ∷ [])) l e) ≡ true
 find-more [] h l e k = absurd (false≢true k)
 find-more (g ∷ hs) h l e k = one (find-more hs h l e) (is-copy g l e) k
@@ -47,9 +48,11 @@ find-more (g ∷ hs) h l e k = one (find-more hs h l e) (is-copy g l e) k
     one rest true k = refl
     one rest false k = rest k
 
+-- a number is itself
 same-number : (n : ℕ) → eqb n n ≡ true
 same-number n = eq-eqb n n refl
 
+-- the new copy is found
 find-new : (hs : List Held) (h : Held) → is-there (find (hs ++ (h ∷ [])) (h .ledger .0) (h .entry .0)) ≡ true
 find-new [] h = rw (same-number (h .ledger .0), same-number (h .entry .0))
 find-new (g ∷ hs) h = one (find-new hs h) (is-copy g (h .ledger .0) (h .entry .0))
@@ -68,6 +71,7 @@ highest-le x (g ∷ hs) l h =
     let r = highest-le x hs l (h .1) in omega arith)
     (λ _. highest-le x hs l (h .1))
 
+-- what a copy that is found says
 abbrev pub FoundOk : World → ℕ → ℕ → Option Held → Type 0
 FoundOk x l e None = Unit {0}
 FoundOk x l e (Some h) = Sent x l e (h .lac .0) (h .body)
@@ -84,6 +88,7 @@ find-ok x (g ∷ hs) l e h =
 
 -- add ----------------------------------------------------------------------------------------------------------------
 module _ (B : Bookie) (l : LedgerId) (e : EntryId) (n : Lac) (body : Body) (recovery : Bool) where
+  -- the copy that an add makes
   copy : Held
   copy = record { ledger = l; entry = e; lac = n; body = body }
 
@@ -93,14 +98,17 @@ module _ (B : Bookie) (l : LedgerId) (e : EntryId) (n : Lac) (body : Body) (reco
   add-cases P old new =
       by-answer (add-answer B l e n body recovery) _ B P (λ _ _. cond-both (holds B (l .0) (e .0)) B (holding B copy) P (λ _. old) new) (λ _ _. old)
 
+  -- an add takes nothing away
   add-grows : Grows B (add-after B l e n body recovery)
   unfolding copy
   add-grows = add-cases (Grows B) (grows-same B) (λ _. record { held = λ k f. find-more (B .entries) copy k f; fenced = λ k h. h; flags = refl })
 
+  -- its copy is true
   add-copies : (x : World) → All (CopyOk x) (B .entries) → Sent x (l .0) (e .0) (n .0) body → All (CopyOk x) (add-after B l e n body recovery .entries)
   unfolding copy
   add-copies x h s = add-cases (λ C. All (CopyOk x) (C .entries)) h (λ _. all-push (CopyOk x) (B .entries) copy h s)
 
+  -- an acknowledged entry is held
   add-holds : (u : Unit {0}) → add-answer B l e n body recovery ≡ Ok u → holds (add-after B l e n body recovery) (l .0) (e .0) ≡ true
   unfolding copy
   add-holds u z =
@@ -108,6 +116,7 @@ module _ (B : Bookie) (l : LedgerId) (e : EntryId) (n : Lac) (body : Body) (reco
       (λ _ _. cond-both (holds B (l .0) (e .0)) B (holding B copy) (λ C. holds C (l .0) (e .0) ≡ true) (λ h. h) (λ _. find-new (B .entries) copy))
       (λ f k. ok-not-err f u (sym k ∙ z))
 
+  -- a bookie that acknowledges is up, and not fenced for a writer
   add-passed : (u : Unit {0}) → add-answer B l e n body recovery ≡ Ok u → (B .up ≡ true) × ((not (is-fenced B (l .0)) || recovery) ≡ true)
   add-passed u z =
       let p = passed (add-fits l e n) refused.Range _ u z in let q = passed (B .up) refused.Stopped _ u (p .1) in
@@ -115,11 +124,13 @@ module _ (B : Bookie) (l : LedgerId) (e : EntryId) (n : Lac) (body : Body) (reco
 
 -- fence --------------------------------------------------------------------------------------------------------------
 module _ (B : Bookie) (l : LedgerId) where
+  -- a bookie that answers a fence is up
   fence-passed : (n : Lac) → fence-answer B l ≡ Ok n → (is-ledger (l .0) ≡ true) × (B .up ≡ true) × (lac-id (highest-lac (B .entries) (l .0)) ≡ n)
   fence-passed n z =
       let p = passed (is-ledger (l .0)) refused.Range _ n z in let q = passed (B .up) refused.Stopped _ n (p .1) in
       (p .0, q .0, (let e = q .1 in cc))
 
+  -- a fence takes nothing away
   fence-grows : Grows B (fence-after B l)
   fence-grows =
       by-answer (fence-answer B l) (fencing B l) B (Grows B)
@@ -130,9 +141,11 @@ module _ (B : Bookie) (l : LedgerId) where
       })
       (λ _ _. grows-same B)
 
+  -- and leaves the copies
   fence-entries : fence-after B l .entries ≡ B .entries
   fence-entries = by-answer (fence-answer B l) (fencing B l) B (λ C. C .entries ≡ B .entries) (λ _ _. refl) (λ _ _. refl)
 
+  -- what is fenced is fenced
   fence-fences : length (B .fences) ≡ max-ledgers → (n : Lac) → fence-answer B l ≡ Ok n → is-fenced (fence-after B l) (l .0) ≡ true
   fence-fences flags n z =
       by-answer (fence-answer B l) (fencing B l) B (λ C. is-fenced C (l .0) ≡ true)
@@ -140,6 +153,7 @@ module _ (B : Bookie) (l : LedgerId) where
       (λ f k. ok-not-err f n (sym k ∙ z))
 
 -- deliveries ---------------------------------------------------------------------------------------------------------
+-- a refusal says nothing
 unless-ok : (x : World) (f : BookieFault) (m : Message) → MessageOk x m → All (MessageOk x) (unless-stopped f m)
 unless-ok x refused.Range m g = (g, tt)
 unless-ok x refused.Stopped m g = tt
@@ -157,11 +171,13 @@ fenced-inv ns c b l i =
     bookie-inv ns c b (fence-after (bookie-of c b) l) i (fence-grows (bookie-of c b) l)
     (rw (fence-entries (bookie-of c b) l) (i .copies b))
 
+-- the bookie is found fenced
 fenced-there : {x₀ : World} (ns : List Note) (c : Cluster) (b : ℕ) (l : LedgerId) (n : Lac) → InvAt x₀ ns c → fence-answer (bookie-of c b) l ≡ Ok n
     → is-fenced (bookie-of (with-bookie c b (fence-after (bookie-of c b) l)) b) (l .0) ≡ true
 fenced-there ns c b l n i z =
     rw (put-there c b (fence-after (bookie-of c b) l) (fence-passed (bookie-of c b) l n z .1)) (fence-fences (bookie-of c b) l (i .flags b) n z)
 
+-- a fence arrives
 pub fence-keeps : {x₀ : World} (ns : List Note) (c : Cluster) (r : RecovererId) (l : LedgerId) (b : BookieId) → InvAt x₀ ns c
     → InvAt x₀ ns (act c (Fence r l b) .next)
 fence-keeps ns c r l b i = sent-inv ns c′ (fence-reply r l b (fence-answer B l)) (fenced-inv ns c (b .0) l i) (true-reply (fence-answer B l) refl)
@@ -182,6 +198,7 @@ fence-keeps ns c r l b i = sent-inv ns c′ (fence-reply r l b (fence-answer B l
     )
     true-reply (Err f) z = unless-ok (world ns c′) f (Refused r l b f) tt
 
+-- a recovery read arrives
 pub read-keeps : {x₀ : World} (ns : List Note) (c : Cluster) (r : RecovererId) (l : LedgerId) (b : BookieId) (e : EntryId) → InvAt x₀ ns c
     → InvAt x₀ ns (act c (RecoveryRead r l b e) .next)
 read-keeps ns c r l b e i =
@@ -219,6 +236,7 @@ read-keeps ns c r l b e i =
     true-reply (Ok (Some h)) z f = (subst (FoundOk (world ns c) (l .0) (e .0)) (read-passed (Some h) z .1) f, tt)
     true-reply (Err f) z _ = unless-ok (world ns c′) f (Refused r l b f) tt
 
+-- a recovery add arrives
 pub recovery-add-keeps : {x₀ : World} (ns : List Note) (c : Cluster) (r : RecovererId) (l : LedgerId) (b : BookieId) (e : EntryId) (n : Lac) (body : Body)
     → InvAt x₀ ns c → Sent (world ns c) (l .0) (e .0) (n .0) body → InvAt x₀ ns (act c (RecoveryAdd r l b e n body) .next)
 recovery-add-keeps ns c r l b e n body i s =
@@ -240,11 +258,13 @@ recovery-add-keeps ns c r l b e n body i s =
     true-reply (Err f) z = unless-ok (world ns c′) f (Refused r l b f) tt
 
 -- a writer's add, whose acknowledgement is noted ---------------------------------------------------------------------
+-- whose acknowledgement it is
 ack-parts : (l e b l′ e′ b′ : ℕ) → is-ack (ack-note l e b) l′ e′ b′ ≡ true → (l ≡ l′) × (e ≡ e′) × (b ≡ b′)
 ack-parts l e b l′ e′ b′ h =
     let p = and-parts (eqb l l′) (eqb e e′ && eqb b b′) h in let q = and-parts (eqb e e′) (eqb b b′) (p .1) in
     (eqb-true l l′ (p .0), eqb-true e e′ (q .0), eqb-true b b′ (q .1))
 
+-- a writer's add arrives
 pub add-keeps : {x₀ : World} (ns : List Note) (c : Cluster) (l : LedgerId) (b : BookieId) (e : EntryId) (n : Lac) (body : Body)
     → InvAt x₀ ns c → Sent (world ns c) (l .0) (e .0) (n .0) body
     → InvAt x₀ (delivery-note (Add l b e n body) (act c (Add l b e n body) .answer) ∷ ns) (act c (Add l b e n body) .next)

@@ -63,6 +63,7 @@ use Rattle.protocol.proofs.Words.{under-other}
 abbrev PositionAnswered : History → RecovererId → LedgerId → Layout → ℕ → Type 0
 PositionAnswered h r l y p = Answered h r l (bookie-id (getD (last-fragment y .bookies) p 0))
 
+-- positions that cover the ensemble did
 abbrev CoverAnswered : History → RecovererId → LedgerId → Layout → Type 0
 CoverAnswered h r l y = (t : ℕ → Bool) × (covers (y .sizes) t ≡ true) × ((p : ℕ) → t p ≡ true → PositionAnswered h r l y p)
 
@@ -74,6 +75,7 @@ RoundIn h r l y (Reading m) = CoverAnswered h r l y
 RoundIn h r l y (Writing m) = CoverAnswered h r l y
 RoundIn h r l y Ended = CoverAnswered h r l y
 
+-- of a recoverer, in its phase
 abbrev RoundOk : History → RecovererId → Recoverer → Type 0
 RoundOk h r R = RoundIn h r (R .ledger) (R .layout) (R .phase)
 
@@ -91,6 +93,7 @@ module _ (h : History) (r : RecovererId) (R : Recoverer) where
   past : (n : ℕ) → CoverAnswered h r (R .ledger) (R .layout) → RoundIn h r (R .ledger) (R .layout) (read-on n)
   past n k = cond-both (leb max-entries n) Ended (Reading no-marks) (RoundIn h r (R .ledger) (R .layout)) (λ _. k) (λ _. k)
 
+  -- while fencing, a fence answer may end the round
   fencing-round : (m : List Bool) (a : Message) → R .phase ≡ Fencing m → ((l : LedgerId) (b : BookieId) (n : Lac) (q : RecovererId) → a ≡ Fenced q l b n → Answered h r l b)
       → RoundOk h r R → RoundOk h r (while-fencing R m a)
   fencing-round m (Fence q l b) ph f k = k
@@ -118,6 +121,7 @@ module _ (h : History) (r : RecovererId) (R : Recoverer) where
   fencing-round m (RecoveryAdded q l b e) ph f k = k
   fencing-round m (Refused q l b g) ph f k = k
 
+  -- while reading, the round is behind it
   reading-round : (m : List Bool) (a : Message) → R .phase ≡ Reading m → RoundOk h r R → RoundOk h r (while-reading R m a)
   reading-round m (Fence q l b) ph k = k
   reading-round m (RecoveryRead q l b e) ph k = k
@@ -136,6 +140,7 @@ module _ (h : History) (r : RecovererId) (R : Recoverer) where
   reading-round m (RecoveryAdded q l b e) ph k = k
   reading-round m (Refused q l b g) ph k = k
 
+  -- and while writing back
   writing-round : (m : List Bool) (a : Message) → R .phase ≡ Writing m → RoundOk h r R → RoundOk h r (while-writing R m a)
   writing-round m (Fence q l b) ph k = k
   writing-round m (RecoveryRead q l b e) ph k = k
@@ -169,31 +174,37 @@ module _ (h : History) (r : RecovererId) (R : Recoverer) where
 abbrev Quiet : Cluster → Outcome → Type 0
 Quiet c o = o .next .recoverers ≡ c .recoverers
 
+-- with sizes or without
 sized-quiet : (c : Cluster) (l : LedgerId) (bs : BookieList) (s : Option Sizes) → Quiet c (create-sized c l bs s)
 sized-quiet c l bs None = refl
 sized-quiet c l bs (Some s) =
     ask-cases c (Quiet c) (eqb (length (listed bs)) (s .ensemble) && distinct (listed bs)) (fault.Client client.Ensemble) _ refl
     (λ _. client-cases c (Quiet c) (by-store (create-answer (c .store) l)) _ (λ f. refl) (λ v. refl))
 
+-- a create leaves them alone
 create-quiet : (c : Cluster) (l : LedgerId) (e w k : ℕ) (bs : BookieList) → Quiet c (create c l e w k bs)
 create-quiet c l e w k bs =
     ask-cases c (Quiet c) (eqb (existing c bs) (length (listed bs))) (fault.Missing (5 + existing c bs)) _ refl
     (λ _. ask-cases c (Quiet c) (not (exists (c .store) (l .0))) fault.Taken _ refl (λ _. sized-quiet c l bs (made-sizes e w k)))
 
+-- an append
 append-quiet : (c : Cluster) (l : LedgerId) (body : Body) → Quiet c (append c l body)
 append-quiet c l body =
     ask-cases c (Quiet c) (is-made (writer-of c (l .0) .state)) (fault.Missing 1) _ refl
     (λ _. client-cases c (Quiet c) (append-answer (writer-of c (l .0))) _ (λ f. refl) (λ e. refl))
 
+-- a resend
 resend-quiet : (c : Cluster) (l : LedgerId) → Quiet c (resend c l)
 resend-quiet c l =
     ask-cases c (Quiet c) (is-made (writer-of c (l .0) .state)) (fault.Missing 1) _ refl
     (λ _. client-cases c (Quiet c) (resend-answer (writer-of c (l .0))) _ (λ f. refl) (λ e. refl))
 
+-- lost or not
 changed-quiet : (c : Cluster) (l : LedgerId) (p : Position) (b : BookieId) (s : Store) (o : Option EntryId) → Quiet c (changed c l (writer-of c (l .0)) p b s o)
 changed-quiet c l p b s None = refl
 changed-quiet c l p b s (Some e) = refl
 
+-- an ensemble change
 change-quiet : (c : Cluster) (l : LedgerId) (p : Position) (b : BookieId) → Quiet c (change-ensemble c l p b)
 change-quiet c l p b =
     ask-cases c (Quiet c) (is-made (writer-of c (l .0) .state)) (fault.Missing 1) _ refl
@@ -201,15 +212,18 @@ change-quiet c l p b =
     (λ _. client-cases c (Quiet c) (change-answer (writer-of c (l .0)) (c .store) l p b) _ (λ f. refl)
     (changed-quiet c l p b (change-store (writer-of c (l .0)) (c .store) l p b))))
 
+-- lost or not
 closed-quiet : (c : Cluster) (l : LedgerId) (s : Store) (o : Option Lac) → Quiet c (closed c l (writer-of c (l .0)) s o)
 closed-quiet c l s None = refl
 closed-quiet c l s (Some n) = refl
 
+-- a close
 close-quiet : (c : Cluster) (l : LedgerId) → Quiet c (close c l)
 close-quiet c l =
     ask-cases c (Quiet c) (is-made (writer-of c (l .0) .state)) (fault.Missing 1) _ refl
     (λ _. client-cases c (Quiet c) (close-answer (writer-of c (l .0)) (c .store) l) _ (λ f. refl) (closed-quiet c l (close-store (writer-of c (l .0)) (c .store) l)))
 
+-- only one step starts a recoverer
 abbrev starts : Step → Bool
 starts (Create l e w k bs) = false
 starts (Append l body) = false
@@ -225,6 +239,7 @@ starts (Discard m) = false
 starts (Stop b) = false
 starts (Start b) = false
 
+-- only one message is a fence answer
 abbrev is-fence-answer : Message → Bool
 is-fence-answer (Fence r l b) = false
 is-fence-answer (RecoveryRead r l b e) = false
@@ -239,6 +254,7 @@ is-fence-answer (RecoveryAdded r l b e) = false
 is-fence-answer (Refused r l b f) = false
 
 module _ (h : History) (c : Cluster) (r : RecovererId) (k : RoundOk h r (recoverer-of c (r .0))) where
+  -- so the others do not
   not-started : (s : Step) → starts s ≡ false → Started r (event c s) → ⊥
   not-started s q (l, did, _) = true≢false (sym (ap starts did) ∙ q)
 
@@ -246,9 +262,11 @@ module _ (h : History) (c : Cluster) (r : RecovererId) (k : RoundOk h r (recover
   kept-round : (s : Step) → (Started r (event c s) → ⊥) → RoundOk (event c s ∷ h) r (recoverer-of c (r .0))
   kept-round s q = round-later h (event c s) r (recoverer-of c (r .0) .ledger) (recoverer-of c (r .0) .layout) (recoverer-of c (r .0) .phase) q k
 
+  -- a step that leaves the recoverers alone
   quiet-round : (s : Step) (o : Outcome) → starts s ≡ false → Quiet c o → RoundOk (event c s ∷ h) r (recoverer-of (o .next) (r .0))
   quiet-round s o q same = subst (λ (xs : List Recoverer). RoundOk (event c s ∷ h) r (numbered xs (r .0) no-recoverer)) (sym same) (kept-round s (not-started s q))
 
+  -- a refused start is none
   refused-round : (q : RecovererId) (l : LedgerId) (f : StepFault) → recover c q l .answer ≡ answer.Refused f → RoundOk (event c (Recover q l) ∷ h) r (recoverer-of c (r .0))
   refused-round q l f said = kept-round (Recover q l) (λ (l′, did, accepted). false≢true (sym (ap is-accepted said) ∙ accepted))
 
@@ -272,6 +290,7 @@ module _ (h : History) (c : Cluster) (r : RecovererId) (k : RoundOk h r (recover
           (λ _. client-cases c P (recover-answer (c .store) l) _ bad
           (λ v. good (with-store c (recover-store (c .store) l)) (new-recoverer l v (ledger-of c (l .0) .layout)) refl refl))))
 
+  -- a finish makes it idle
   finish-round : (q : RecovererId) → RoundOk (event c (Finish q) ∷ h) r (recoverer-of (finish c q .next) (r .0))
   finish-round q =
       ask-cases c P (at-work (recoverer-of c (q .0) .phase)) (fault.Missing 1) _ still
@@ -284,6 +303,7 @@ module _ (h : History) (c : Cluster) (r : RecovererId) (k : RoundOk h r (recover
       still : RoundOk (event c (Finish q) ∷ h) r (recoverer-of c (r .0))
       still = kept-round (Finish q) (not-started (Finish q) refl)
 
+  -- a delivery may be heard by it
   deliver-round : (p : MessagePlace) → RoundOk (event c (Deliver p) ∷ h) r (recoverer-of (deliver c p .next) (r .0))
   deliver-round p =
       ask-cases c (λ o. RoundOk k′ r (recoverer-of (o .next) (r .0))) (waits c p) (fault.Missing 1) _ still (λ _. arrived (message-at c p) refl)
@@ -339,6 +359,7 @@ module _ (h : History) (c : Cluster) (r : RecovererId) (k : RoundOk h r (recover
   step-round (Stop b) = quiet-round (Stop b) (turn c b false) refl (ask-cases c (Quiet c) (ltb (b .0) (length (c .bookies))) (fault.Missing 1) _ refl (λ _. refl))
   step-round (Start b) = quiet-round (Start b) (turn c b true) refl (ask-cases c (Quiet c) (ltb (b .0) (length (c .bookies))) (fault.Missing 1) _ refl (λ _. refl))
 
+-- every run
 run-round : (spaces : List ℕ) (changes room : ℕ) {h : History} {c : Cluster} → Runs [] (empty spaces changes room) h c → (r : RecovererId) → RoundOk h r (recoverer-of c (r .0))
 run-round spaces changes room stay r = all-blank (RoundOk [] r) max-recoverers (r .0) no-recoverer tt
 run-round spaces changes room (more {h = h} {c = c} s g) r = step-round h c r (run-round spaces changes room g r) s
@@ -352,13 +373,16 @@ past-covered h r l y (Writing m) q k = (refl, k)
 past-covered h r l y Ended q k = (refl, k)
 
 -- the race -----------------------------------------------------------------------------------------------------------
+-- a closed ledger is there
 closed-there : (o : Option Metadata) → known o .state ≡ Closed → is-there o ≡ true
 closed-there None h = let z : _≡_ {A = ℕ} 0 1 = cc in let v : ⊥ = omega arith in absurd v
 closed-there (Some m) h = refl
 
+-- and what is there is in range
 row-ledger : {A : Type 0} (xs : List A) (l : ℕ) → length xs ≡ max-ledgers → HasRow xs l → is-ledger l ≡ true
 row-ledger xs l n h = and-from (leb 1 l) (leb l max-ledgers) (le-leb 1 l (h .0)) (le-leb l max-ledgers (let k = h .1 in omega arith))
 
+-- so a finish that comes late answers the closing entry
 late-finish : {x₀ : World} (ns : List Note) (c : Cluster) (r : RecovererId) → InvAt x₀ ns c → is-ended (recoverer-of c (r .0) .phase) ≡ true
     → (ledger-of c (recoverer-of c (r .0) .ledger .0) .version .0 ≡ recoverer-of c (r .0) .version .0 → ⊥)
     → IsClosed c (recoverer-of c (r .0) .ledger) × (finish c r .answer ≡ answer.ClosingEntry (ledger-of c (recoverer-of c (r .0) .ledger .0) .closing))
@@ -383,6 +407,7 @@ late-finish ns c r i ended ne = (closed-now, rw (work, ended, in-range-now, ther
     other = ne-eqb (ledger-of c (R .ledger .0) .version .0) (R .version .0) ne
 
 -- the law of rounds --------------------------------------------------------------------------------------------------
+-- all of it
 pub rounds : RoundsLaw
 rounds h c g =
     record {

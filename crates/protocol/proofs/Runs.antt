@@ -67,6 +67,7 @@ refused-note ns c (Found r l b e n body) f i = i
 refused-note ns c (RecoveryAdded r l b e) f i = i
 refused-note ns c (Refused r l b g) f i = i
 
+-- a message is delivered
 deliver-keeps : {x₀ : World} (ns : List Note) (c : Cluster) (m : MessagePlace) → InvAt x₀ ns c → Keeps x₀ ns c (Deliver m) (deliver c m)
 deliver-keeps {x₀} ns c m i =
     ask-cases c (Keeps x₀ ns c (Deliver m)) (waits c m) (fault.Missing 1) _ (refused-note ns c (message-at c m) (fault.Missing 1) i)
@@ -74,6 +75,7 @@ deliver-keeps {x₀} ns c m i =
     (with-messages (taken-off (c .queue .waiting) (m .0)) i (all-taken-off (MessageOk (world ns c)) (c .queue .waiting) (m .0) (i .messages)))
     (waiting-ok ns c m i q))
 
+-- each step
 pub step-keeps : {x₀ : World} (ns : List Note) (c : Cluster) (s : Step) → InvAt x₀ ns c → Keeps x₀ ns c s (step c s)
 step-keeps ns c (Create l e w k bs) i = create-keeps ns c l e w k bs i
 step-keeps ns c (Append l body) i = append-keeps ns c l body i
@@ -90,11 +92,13 @@ step-keeps ns c (Stop b) i = stop-keeps ns c b i
 step-keeps ns c (Start b) i = start-keeps ns c b i
 
 -- the empty cluster --------------------------------------------------------------------------------------------------
+-- each bookie of an empty cluster is new
 of-new : (P : Bookie → Type 0) (spaces : List ℕ) (b : ℕ) → ((n : ℕ) → P (new-bookie n)) → P no-bookie → P (getD (map new-bookie spaces) b no-bookie)
 of-new P [] b new none = none
 of-new P (s ∷ ss) zero new none = new s
 of-new P (s ∷ ss) (suc b) new none = of-new P ss b new none
 
+-- an empty cluster
 pub empty-inv : (spaces : List ℕ) (changes room : ℕ) → InvAt (world [] (empty spaces changes room)) [] (empty spaces changes room)
 empty-inv spaces changes room =
     record {
@@ -125,6 +129,7 @@ empty-inv spaces changes room =
     c = empty spaces changes room
 
 -- runs ---------------------------------------------------------------------------------------------------------------
+-- step by step
 pub run-keeps : {x₀ : World} {h₁ : History} {c₁ : Cluster} {h : History} {c : Cluster} → Runs h₁ c₁ h c → InvAt x₀ (notes h₁) c₁ → InvAt x₀ (notes h) c
 run-keeps stay i = i
 run-keeps (more {h = h} {c = c} s r) i = step-keeps (notes h) c s (run-keeps r i)
@@ -145,10 +150,12 @@ rebase {x₀} {x} i =
       ledgers = i .ledgers;
     }
 
+-- a step leads to a later world
 pub step-later : {x₀ : World} (ns : List Note) (c : Cluster) (s : Step) → InvAt x₀ ns c
     → Later (world ns c) (world (note-of s c (step c s .answer) ∷ ns) (step c s .next))
 step-later ns c s i = step-keeps ns c s (rebase i) .since
 
+-- and so does a run
 pub run-later : {x₀ : World} {h₁ : History} {c₁ : Cluster} {h : History} {c : Cluster} → Runs h₁ c₁ h c → InvAt x₀ (notes h₁) c₁
     → Later (world (notes h₁) c₁) (world (notes h) c)
 run-later r i = run-keeps r (rebase i) .since

@@ -67,10 +67,12 @@ use Rattle.protocol.proofs.WriterSteps.{pending-length, content-last, in-last}
 use Rattle.protocol.proofs.Runs.{empty-inv, run-keeps, step-later, run-later}
 
 -- an ack quorum and a blocking number of barred positions ------------------------------------------------------------
+-- there are n of n positions
 length-positions : (n e m : ℕ) → length (positions n e m) ≡ n
 length-positions zero e m = refl
 length-positions (suc n) e m = ap suc (length-positions n (suc e) m)
 
+-- a write set has W bookies
 length-bookies : (y : Layout) (e : ℕ) → length (bookies-of y e) ≡ y .sizes .write
 length-bookies y e = length-map (write-set (y .sizes) e) (bookie-at y e) ∙ length-positions (y .sizes .write) e (y .sizes .ensemble)
 
@@ -117,6 +119,7 @@ reply-lac c l b e a n k said lt =
     below : k < w′ .lac
     below = let same : lac-id (w′ .lac) ≡ n = cc in let s : w′ .lac ≡ n .0 = ap (λ (v : Lac). v .0) same in omega arith
 
+-- whichever reply it was
 confirm-act : (c : Cluster) (m : Message) (l : LedgerId) (n : Lac) (k : ℕ) → ToWriter l m → act c m .answer ≡ answer.Confirmed n → k < n .0
     → k < writer-of (act c m .next) (l .0) .lac
 confirm-act c m l n k (inl (b, e, is)) =
@@ -124,6 +127,7 @@ confirm-act c m l n k (inl (b, e, is)) =
 confirm-act c m l n k (inr (b, e, f, is)) =
     subst (λ (v : Message). act c v .answer ≡ answer.Confirmed n → k < n .0 → k < writer-of (act c v .next) (l .0) .lac) (sym is) (reply-lac c l b e (Err f) n k)
 
+-- at the delivery itself
 confirm-deliver : (c : Cluster) (p : MessagePlace) (l : LedgerId) (n : Lac) (k : ℕ) → ToWriter l (message-at c p) → deliver c p .answer ≡ answer.Confirmed n → k < n .0
     → k < writer-of (deliver c p .next) (l .0) .lac
 confirm-deliver c p l n k t =
@@ -142,6 +146,7 @@ module _ (c₀ : Cluster) (i₀ : InvAt (world [] c₀) [] c₀) where
       let p = confirmed-lac r l e z in let q = step-later (notes h) c s (run-keeps r i₀) .lac (l .0) in omega arith
 
 -- closed -------------------------------------------------------------------------------------------------------------
+-- closed at the entry of this answer
 abbrev ClosedAs : Cluster → LedgerId → Answer → Type 0
 ClosedAs c l a = IsClosed c l × (a ≡ answer.ClosingEntry (ledger-of c (l .0) .closing))
 
@@ -153,12 +158,14 @@ Says l o = is-accepted (o .answer) ≡ true → (o .answer ≡ answer.Lost → �
 put-known : (s : Store) (l : ℕ) (m : Metadata) → length (s .ledgers) ≡ max-ledgers → is-ledger l ≡ true → metadata-of (written s l m) l ≡ m
 put-known s l m n q = ap known (number-same (s .ledgers) l (Some m) None (ledger-row (s .ledgers) l n q))
 
+-- the ledger that was closed is found closed
 closed-known : (c : Cluster) (l : LedgerId) (v : Version) (y : Layout) (n : Lac) → length (c .store .ledgers) ≡ max-ledgers → is-ledger (l .0) ≡ true
     → ClosedAs (with-store c (written (c .store) (l .0) (record { version = v; state = Closed; layout = y; closing = n }))) l (answer.ClosingEntry n)
 closed-known c l v y n sized q =
     subst (λ (m : Metadata). (m .state ≡ Closed) × (answer.ClosingEntry n ≡ answer.ClosingEntry (m .closing)))
     (sym (put-known (c .store) (l .0) (record { version = v; state = Closed; layout = y; closing = n }) sized q)) (refl, refl)
 
+-- a close
 close-says : {x₀ : World} (ns : List Note) (c : Cluster) (l : LedgerId) → InvAt x₀ ns c → Says l (close c l)
 close-says ns c l i =
     ask-cases c (Says l) (is-made (w .state)) (fault.Missing 1) _ refusing
@@ -173,10 +180,12 @@ close-says ns c l i =
     refusing : {f : StepFault} → Says l (refuse c f)
     refusing h _ = absurd (false≢true h)
 
+-- past the version of a recovery the ledger is closed
 pub under-other : (m : Metadata) (v : ℕ) → Under m v → (m .version .0 ≡ v → ⊥) → m .state ≡ Closed
 under-other m v (inl z) ne = absurd (ne (sym (z .1)))
 under-other m v (inr z) ne = z .0
 
+-- a finish
 finish-says : {x₀ : World} (ns : List Note) (c : Cluster) (r : RecovererId) → InvAt x₀ ns c → Says (recoverer-of c (r .0) .ledger) (finish c r)
 finish-says ns c r i =
     ask-cases c (Says l) (at-work (R .phase)) (fault.Missing 1) _ refusing
@@ -196,6 +205,7 @@ finish-says ns c r i =
     refusing : {f : StepFault} → Says l (refuse c f)
     refusing h _ = absurd (false≢true h)
 
+-- either
 closes-says : {x₀ : World} (ns : List Note) (c : Cluster) (s : Step) (l : LedgerId) → InvAt x₀ ns c → Closes l (event c s) → Says l (step c s)
 closes-says ns c s l i (inl did) = subst (λ (v : Step). Says l (step c v)) (sym did) (close-says ns c l i)
 closes-says ns c s l i (inr (r, did, at)) =
@@ -207,6 +217,7 @@ closed-stays : {x y : World} → Later x y → (l : ℕ) (a : Answer) → (x .le
 closed-stays t l a h = let q = t .closed l (h .0) in (q .0, h .1 ∙ ap (λ (k : ℕ). answer.ClosingEntry (lac-id k)) (sym (q .1)))
 
 module _ (c₀ : Cluster) (i₀ : InvAt (world [] c₀) [] c₀) where
+  -- at every later time
   closed-run : {h : History} {c : Cluster} → Runs [] c₀ h c → (l : LedgerId) (a : Answer) → Once (ClosedWith l a) h → ClosedAs c l a
   closed-run stay l a z = absurd z
   closed-run (more {h = h} {c = c} s r) l a (inl (closes, said, accepted, kept-on)) =
@@ -237,6 +248,7 @@ append-cases ns c l body P i bad good =
     K : Result EntryId ClientFault → Type 0
     K r = P′ (by-client c r (λ e. done (answer.Entry e) (send (with-writer c (l .0) (appended w body)) (append-sends w l body))))
 
+-- the content of a new entry is what was appended
 appended-content : {x₀ : World} (ns : List Note) (c : Cluster) (l : LedgerId) (b : Body) (k e : ℕ) (body : Body) → InvAt x₀ ns c
     → ContentAt (contents-of (note-of (Append l b) c (append c l b .answer) ∷ ns) k) e body
     → NewContent k e body c (Append l b) ⊎ ContentAt (contents-of ns k) e body
@@ -277,6 +289,7 @@ no-content (Found r l′ b e n body) a l ts = refl
 no-content (RecoveryAdded r l′ b e) a l ts = refl
 no-content (Refused r l′ b f) a l ts = refl
 
+-- a content is new at this step, or was there
 content-step : {x₀ : World} (ns : List Note) (c : Cluster) (s : Step) (l e : ℕ) (body : Body) → InvAt x₀ ns c
     → ContentAt (contents-of (note-of s c (step c s .answer) ∷ ns) l) e body → NewContent l e body c s ⊎ ContentAt (contents-of ns l) e body
 content-step ns c (Create l′ f w k bs) l e body i h = inr h
@@ -294,6 +307,7 @@ content-step ns c (Discard m) l e body i h = inr h
 content-step ns c (Stop b) l e body i h = inr h
 content-step ns c (Start b) l e body i h = inr h
 
+-- what is appended is a content
 new-content : {x₀ : World} (ns : List Note) (c : Cluster) (s : Step) (l e : ℕ) (body : Body) → InvAt x₀ ns c → NewContent l e body c s
     → ContentAt (contents-of (note-of s c (step c s .answer) ∷ ns) l) e body
 new-content ns c s l e body i (did, said) =
@@ -305,12 +319,14 @@ new-content ns c s l e body i (did, said) =
     rw (eq-eqb l l refl) (content-last (contents-of ns l) body e (len ∙ ap (λ (v : EntryId). v .0) same)))) said
 
 module _ (c₀ : Cluster) (i₀ : InvAt (world [] c₀) [] c₀) where
+  -- every content was appended
   content-appended : {h : History} {c : Cluster} → Runs [] c₀ h c → (l : LedgerId) (e : EntryId) (body : Body)
       → ContentAt (contents-of (notes h) (l .0)) (e .0) body → Appended h l e body
   content-appended stay l e body z = let k = z .0 in let v : ⊥ = omega arith in absurd v
   content-appended (more {h = h} {c = c} s r) l e body z =
       elim (content-step (notes h) c s (l .0) (e .0) body (run-keeps r i₀) z) [ inl k ↦ inl k | inr k ↦ inr (content-appended r l e body k) ]
 
+  -- and all that was appended is one
   appended-is : {h : History} {c : Cluster} → Runs [] c₀ h c → (l : LedgerId) (e : EntryId) (body : Body) → Appended h l e body
       → ContentAt (contents-of (notes h) (l .0)) (e .0) body
   appended-is stay l e body z = absurd z
@@ -319,6 +335,7 @@ module _ (c₀ : Cluster) (i₀ : InvAt (world [] c₀) [] c₀) where
       step-later (notes h) c s (run-keeps r i₀) .contents (l .0) (e .0) body (appended-is r l e body z)
 
 -- fence answers ------------------------------------------------------------------------------------------------------
+-- who answered a fence is fenced
 fence-answered : {x₀ : World} (ns : List Note) (c : Cluster) (p : MessagePlace) (r : RecovererId) (l : LedgerId) (b : BookieId) (n : Lac) → InvAt x₀ ns c
     → message-at c p ≡ Fenced r l b n → is-fenced (bookie-of c (b .0)) (l .0) ≡ true
 fence-answered ns c p r l b n i q =
@@ -329,6 +346,7 @@ fence-answered ns c p r l b n i q =
     ]
 
 module _ (c₀ : Cluster) (i₀ : InvAt (world [] c₀) [] c₀) where
+  -- for ever
   answered-fenced : {h : History} {c : Cluster} → Runs [] c₀ h c → (r : RecovererId) (l : LedgerId) (b : BookieId) → Answered h r l b
       → is-fenced (bookie-of c (b .0)) (l .0) ≡ true
   answered-fenced stay r l b z = absurd z
@@ -338,6 +356,7 @@ module _ (c₀ : Cluster) (i₀ : InvAt (world [] c₀) [] c₀) where
       step-later (notes h) c s (run-keeps w i₀) .fenced (l .0) (b .0) (answered-fenced w r l b (z .1))
 
 -- coverage -----------------------------------------------------------------------------------------------------------
+-- the write sets that are looked at
 covers-at : (s : Sizes) (t : ℕ → Bool) (n e : ℕ) → covers-below s t n ≡ true → e < n → blocking s ≤ tally t (write-set s e)
 covers-at s t zero e h k = let v : ⊥ = omega arith in absurd v
 covers-at s t (suc n) e h k =
@@ -345,6 +364,7 @@ covers-at s t (suc n) e h k =
     elim (cases-eq e n)
     [ inl q ↦ subst (λ (m : ℕ). blocking s ≤ tally t (write-set s m)) (sym q) (leb-true _ _ (p .0)) | inr q ↦ covers-at s t n e (p .1) (omega arith) ]
 
+-- write sets repeat
 positions-mod : (n a b m : ℕ) → a % m ≡ b % m → positions n a m ≡ positions n b m
 positions-mod zero a b m h = refl
 positions-mod (suc n) a b m h =
@@ -357,6 +377,7 @@ covers-all s t e h =
     subst (λ (ps : List ℕ). blocking s ≤ tally t ps) (positions-mod (s .write) (e % s .ensemble) e (s .ensemble) (mod-mod e (s .ensemble)))
     (covers-at s t (s .ensemble) (e % s .ensemble) h (mod-lt e (let a = s .written in let b = s .acked in let c = s .some in omega arith)))
 
+-- what is held was appended
 held-content : {x₀ x : World} {rs : ℕ → Recoverer} {ms : List Message} → Inv x₀ x rs ms → (l e b : ℕ) → held-at x l e b ≡ true → e < length (x .contents l)
 held-content {x₀} {x} i l e b h = by (find (x .bookie b .entries) l e) refl (find-ok x (x .bookie b .entries) l e (i .copies b))
   where
@@ -395,10 +416,12 @@ blocked {x₀} {x} i l e t k f h =
 one-content : (ts : List Body) (e : ℕ) (a b : Body) → ContentAt ts e a → ContentAt ts e b → a ≡ b
 one-content ts e a b h k = sym (h .1) ∙ k .1
 
+-- runs follow one another
 pub runs-on : {h₀ : History} {c₀ : Cluster} {h₁ : History} {c₁ : Cluster} {h : History} {c : Cluster} → Runs h₀ c₀ h₁ c₁ → Runs h₁ c₁ h c → Runs h₀ c₀ h c
 runs-on r stay = r
 runs-on r (more s q) = more s (runs-on r q)
 
+-- an entry appended after the fence round is blocked
 shut-run : (c₀ : Cluster) (i₀ : InvAt (world [] c₀) [] c₀) (h₁ : History) (c₁ : Cluster) (h : History) (c : Cluster) (r : RecovererId) (l : LedgerId) (e : EntryId) (body : Body)
     → Runs [] c₀ h₁ c₁ → Runs h₁ c₁ h c → Covered h₁ c₁ r l → Appended h l e body → (Appended h₁ l e body → ⊥) → Confirmed h l e → ⊥
 shut-run c₀ i₀ h₁ c₁ h c r l e body r₁ on (work, at, t, cov, answered) app new conf = clash (world (notes h) c) (l .0) (e .0) y acks bars
@@ -456,6 +479,7 @@ shut-run c₀ i₀ h₁ c₁ h c r l e body r₁ on (work, at, t, cov, answered)
         subst (λ (u : Layout). u .sizes .ack ≤ tally (acked-by (notes h) (l .0) (e .0)) (bookies-of u (e .0))) (later .frozen (l .0) shut .0)
         (i .writing (l .0) .firm (e .0) (confirmed-lac c₀ i₀ all l e conf))
 
+-- all of it
 pub law : Law
 law h c (spaces, changes, room, run) =
     record {
@@ -471,6 +495,7 @@ law h c (spaces, changes, room, run) =
             λ body a. one-content (contents-of (notes h) (x .ledger .0)) (x .entry .0) body (x .body) (appended-is c₀ i₀ run (x .ledger) (x .entry) body a) (k .0),
           ))
           (bookie-of c b .entries) (i .copies b);
+      fragments = λ l. i .metadata (l .0) .layout .rises;
       shut = λ h₁ c₁ r l e body (s₁, k₁, m₁, r₁) on. shut-run (empty s₁ k₁ m₁) (empty-inv s₁ k₁ m₁) h₁ c₁ h c r l e body r₁ on;
     }
   where

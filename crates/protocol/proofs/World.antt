@@ -13,7 +13,7 @@ use Rattle.ledgers.specs.declared.bodies.Body.{Body}
 use Rattle.ledgers.specs.declared.steps.Step.{Step}
 use Rattle.ledgers.specs.declared.steps.Step.the-variants.{Create, Append, Resend, ChangeEnsemble, Close, Recover, AskAgain, Finish, Deliver, Duplicate, Discard, Stop, Start}
 use Rattle.layout.specs.WriteSets.{tally, marked, blocking, distinct}
-use Rattle.layout.specs.Layouts.{no-fragment, last-first, bookie-at, bookies-of}
+use Rattle.layout.specs.Layouts.{no-fragment, last-first, Rises, bookie-at, bookies-of}
 use Rattle.layout.specs.declared.fragments.Layout.{Layout}
 use Rattle.messages.specs.Blanks.{no-body}
 use Rattle.messages.specs.declared.entries.Held.{Held}
@@ -43,6 +43,7 @@ pub data Note : Type 0 where
   content-note : (l : ℕ) (body : Body) → Note
   ack-note : (l e b : ℕ) → Note
 
+-- the bookie did what it was asked
 abbrev pub is-served : Answer → Bool
 is-served (answer.Refused f) = false
 is-served (answer.Version v) = false
@@ -88,10 +89,12 @@ note-of (Discard m) c a = nothing
 note-of (Stop b) c a = nothing
 note-of (Start b) c a = nothing
 
+-- of a history
 abbrev pub notes : History → List Note
 notes [] = []
 notes (v ∷ h) = note-of (v .did) (v .before) (v .said) ∷ notes h
 
+-- the contents with what is noted
 abbrev pub add-content : Note → ℕ → List Body → List Body
 add-content nothing l ts = ts
 add-content (content-note k body) l ts = cond (eqb k l) (ts ++ (body ∷ [])) ts
@@ -102,6 +105,7 @@ abbrev pub contents-of : List Note → ℕ → List Body
 contents-of [] l = []
 contents-of (n ∷ ns) l = add-content n l (contents-of ns l)
 
+-- this acknowledgement is noted
 abbrev pub is-ack : Note → ℕ → ℕ → ℕ → Bool
 is-ack nothing l e b = false
 is-ack (content-note k body) l e b = false
@@ -113,6 +117,7 @@ acked-by [] l e b = false
 acked-by (n ∷ ns) l e b = is-ack n l e b || acked-by ns l e b
 
 -- worlds -------------------------------------------------------------------------------------------------------------
+-- the cluster as functions of numbers, and what was noted
 pub record World : Type 0 where
   pub bookie : ℕ → Bookie
   pub writer : ℕ → Writer
@@ -123,6 +128,7 @@ pub record World : Type 0 where
   pub writers : ℕ
   pub ledgers : ℕ
 
+-- of a cluster
 abbrev pub world : List Note → Cluster → World
 world ns c =
     record {
@@ -144,6 +150,7 @@ ContentAt ts e body = (e < length ts) × (getD ts e no-body ≡ body)
 abbrev pub barred : World → ℕ → ℕ → ℕ → Bool
 barred x l e b = is-fenced (x .bookie b) l && not (x .acked l e b)
 
+-- bookie b holds entry e
 abbrev pub held-at : World → ℕ → ℕ → ℕ → Bool
 held-at x l e b = holds (x .bookie b) l e
 
@@ -151,6 +158,7 @@ held-at x l e b = holds (x .bookie b) l e
 abbrev pub Sent : World → ℕ → ℕ → ℕ → Body → Type 0
 Sent x l e n body = ContentAt (x .contents l) e body × (n ≤ x .writer l .lac)
 
+-- a copy is true
 abbrev pub CopyOk : World → Held → Type 0
 CopyOk x h = Sent x (h .ledger .0) (h .entry .0) (h .lac .0) (h .body)
 
@@ -175,12 +183,13 @@ PendingOk ts A y e [] = length ts ≡ e
 PendingOk ts A y e (p ∷ ps) =
     ContentAt ts e (p .body) × ((q : ℕ) → marked (p .marks) q ≡ true → A e (bookie-at y e q) ≡ true) × PendingOk ts A y (suc e) ps
 
--- the first fragment starts at entry 0, and each has different bookies
+-- the fragments rise, and each has different bookies
 pub record LayoutOk (y : Layout) : Type 0 where
-  pub first : getD (y .fragments) 0 no-fragment .first .0 ≡ 0
+  pub rises : Rises y
   pub full : (i : ℕ) → i < y .count → y .sizes .ensemble ≤ length (getD (y .fragments) i no-fragment .bookies)
   pub apart : (i : ℕ) → i < y .count → distinct (take (y .sizes .ensemble) (getD (y .fragments) i no-fragment .bookies)) ≡ true
 
+-- what the writer knows: ts are the contents of its ledger, A says who acknowledged
 pub record WriterOk (ts : List Body) (A : ℕ → ℕ → Bool) (w : Writer) : Type 0 where
   pub upto : w .lac ≤ length ts
   pub small : length ts ≤ max-entries
@@ -209,6 +218,7 @@ StateOk x l w m Closed =
     Copied x l (m .closing .0) (m .layout)
     × (((is-closed (w .state) ≡ true) × (w .lac ≡ m .closing .0)) ⊎ ((w .version < m .version .0) × Sealed x l (m .closing .0) (w .layout)))
 
+-- what the metadata says
 pub record LedgerOk (x : World) (l : ℕ) (w : Writer) (m : Metadata) : Type 0 where
   -- a ledger that is not there has no writer
   pub free : m .version .0 ≡ 0 → (m .state ≡ Open) × (is-made (w .state) ≡ false)
@@ -230,19 +240,23 @@ PhaseOk x R l y Ended = Sealed x l (R .settled .0) y
 abbrev pub Under : Metadata → ℕ → Type 0
 Under m v = ((m .state ≡ InRecovery) × (v ≡ m .version .0)) ⊎ ((m .state ≡ Closed) × (v < m .version .0))
 
+-- what a recoverer at work knows
 pub record WorkOk (x : World) (R : Recoverer) : Type 0 where
   pub same : R .layout ≡ x .writer (R .ledger .0) .layout
   pub under : Under (x .ledger (R .ledger .0)) (R .version .0)
   pub below : Copied x (R .ledger .0) (R .settled .0) (R .layout)
   pub phase : PhaseOk x R (R .ledger .0) (R .layout) (R .phase)
 
+-- an idle one knows nothing
 abbrev pub RecovererOk : World → Recoverer → Type 0
 RecovererOk x R = at-work (R .phase) ≡ true → WorkOk x R
 
 -- what no step undoes ------------------------------------------------------------------------------------------------
+-- a recovery or a close took the ledger from its writer
 abbrev pub Shut : Metadata → Type 0
 Shut m = (m .state ≡ InRecovery) ⊎ (m .state ≡ Closed)
 
+-- y comes after x
 pub record Later (x y : World) : Type 0 where
   pub contents : (l e : ℕ) (body : Body) → ContentAt (x .contents l) e body → ContentAt (y .contents l) e body
   pub acked : (l e b : ℕ) → x .acked l e b ≡ true → y .acked l e b ≡ true
@@ -276,6 +290,7 @@ pub record Inv (x₀ x : World) (rs : ℕ → Recoverer) (ms : List Message) : T
   pub writers : x .writers ≡ max-ledgers
   pub ledgers : x .ledgers ≡ max-ledgers
 
+-- of a cluster
 abbrev pub InvAt : World → List Note → Cluster → Type 0
 InvAt x₀ ns c = Inv x₀ (world ns c) (recoverer-of c) (c .queue .waiting)
 

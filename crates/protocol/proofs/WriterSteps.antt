@@ -15,7 +15,7 @@ use Rattle.std.specs.declared.option.Option.{Option}
 use Rattle.std.specs.declared.option.Option.the-variants.{Some, None}
 use Rattle.std.specs.declared.result.Result.{Result}
 use Rattle.std.specs.declared.result.Result.the-variants.{Ok}
-use Rattle.ledgers.specs.Limits.{max-entries, is-ledger}
+use Rattle.ledgers.specs.Limits.{max-entries, max-fragments, max-pending, is-ledger}
 use Rattle.ledgers.specs.Ids.{bookie-id, entry-id, lac-id, version-id}
 use Rattle.ledgers.specs.BookieLists.{listed}
 use Rattle.ledgers.specs.declared.bodies.Body.{Body}
@@ -27,7 +27,7 @@ use Rattle.ledgers.specs.declared.ids.Position.{Position}
 use Rattle.ledgers.specs.declared.steps.Step.the-variants.{Create, Append, Resend, ChangeEnsemble, Close}
 use Rattle.layout.specs.Sizes.{made-sizes}
 use Rattle.layout.specs.WriteSets.{write-set, tally, marked, member, distinct}
-use Rattle.layout.specs.Layouts.{no-fragment, fragment-below, fragment-of, last-fragment, last-first, bookie-at, bookies-of, first-layout, alters, room-for, changed-fragment, changed-layout}
+use Rattle.layout.specs.Layouts.{no-fragment, fragment-below, fragment-of, last-fragment, last-first, Rises, bookie-at, bookies-of, first-layout, alters, room-for, changed-fragment, changed-layout}
 use Rattle.layout.specs.declared.sizes.Sizes.{Sizes}
 use Rattle.layout.specs.declared.fragments.Fragment.{Fragment}
 use Rattle.layout.specs.declared.fragments.Layout.{Layout}
@@ -61,6 +61,7 @@ absent-known None h = refl
 absent-known (Some m) h = absurd (true≢false h)
 
 -- create -------------------------------------------------------------------------------------------------------------
+-- as much as is taken
 take-length : {A : Type 0} (n : ℕ) (xs : List A) → take (length (take n xs)) xs ≡ take n xs
 take-length zero xs = refl
 take-length (suc n) [] = refl
@@ -74,6 +75,7 @@ listed-ok s bs h =
     first-layout-ok s (bs .numbers) (let k = length-take (bs .count) (bs .numbers) in omega arith)
     (subst (λ (k : ℕ). distinct (take k (bs .numbers)) ≡ true) n (rw (take-length (bs .count) (bs .numbers)) (p .1)))
 
+-- a ledger is created
 pub create-keeps : {x₀ : World} (ns : List Note) (c : Cluster) (l : LedgerId) (e w k : ℕ) (bs : BookieList) → InvAt x₀ ns c
     → Keeps x₀ ns c (Create l e w k bs) (create c l e w k bs)
 create-keeps {x₀} ns c l e w k bs i =
@@ -121,13 +123,16 @@ pub pending-length : (ts : List Body) (A : ℕ → ℕ → Bool) (y : Layout) (e
 pending-length ts A y e [] h = let k : length ts ≡ e = h in omega arith
 pending-length ts A y e (p ∷ ps) h = let k = pending-length ts A y (suc e) ps (h .2) in omega arith
 
+-- old contents stay
 pub content-more : (ts : List Body) (body : Body) (e : ℕ) (b : Body) → ContentAt ts e b → ContentAt (ts ++ (body ∷ [])) e b
 content-more ts body e b h =
     (let k = h .0 in rw (length-append ts (body ∷ [])) (omega arith), getD-append-left ts (body ∷ []) no-body e (h .0) ∙ h .1)
 
+-- and the new one is the last
 pub content-last : (ts : List Body) (body : Body) (e : ℕ) → length ts ≡ e → ContentAt (ts ++ (body ∷ [])) e body
 content-last ts body e h = (rw (length-append ts (body ∷ [])) (omega arith), getD-at ts body [] no-body e h)
 
+-- one more add is pending
 pending-push : (ts : List Body) (body : Body) (A : ℕ → ℕ → Bool) (y : Layout) (e : ℕ) (ps : List PendingAdd) → PendingOk ts A y e ps
     → PendingOk (ts ++ (body ∷ [])) A y e (ps ++ (new-add body ∷ []))
 pending-push ts body A y e [] h =
@@ -142,12 +147,13 @@ adds-to-ok x u l e n p (q ∷ qs) h =
     cond-both (marked (p .marks) q) (adds-to u l e n p qs) (Add l (bookie-id (bookie-at u e q)) (entry-id e) (lac-id n) (p .body) ∷ adds-to u l e n p qs)
     (All (MessageOk x)) (λ _. adds-to-ok x u l e n p qs h) (λ _. (h, adds-to-ok x u l e n p qs h))
 
+-- an entry is appended
 pub append-keeps : {x₀ : World} (ns : List Note) (c : Cluster) (l : LedgerId) (body : Body) → InvAt x₀ ns c → Keeps x₀ ns c (Append l body) (append c l body)
 append-keeps {x₀} ns c l body i =
     ask-cases c (Keeps x₀ ns c (Append l body)) (is-made (w .state)) (fault.Missing 1) _ i
     (λ q4. writing-asked w _ K (λ f. i)
     (λ q7 q8. asked (has-room w) client.Full (Ok (entry-id (next-entry w))) K i
-    (λ q11. grown q4 q7 q8 (ltb-true (next-entry w) max-entries (and-parts (ltb (length (w .pending)) 16) (ltb (next-entry w) max-entries) q11 .1)))))
+    (λ q11. grown q4 q7 q8 (ltb-true (next-entry w) max-entries (and-parts (ltb (length (w .pending)) max-pending) (ltb (next-entry w) max-entries) q11 .1)))))
   where
     w : Writer
     w = writer-of c (l .0)
@@ -198,6 +204,7 @@ append-keeps {x₀} ns c l body i =
         old : WriterOk (contents-of ns (l .0)) (acked-by ns (l .0)) w
         old = i .writing (l .0)
 
+        -- what it is
         new : WriterOk (contents-of ns (l .0) ++ (body ∷ [])) (acked-by ns (l .0)) w′
         new =
             record {
@@ -224,6 +231,7 @@ append-keeps {x₀} ns c l body i =
             (ledger-later t k (writer-of c k) (ledger-of c k) (i .metadata k)))
 
 -- resend -------------------------------------------------------------------------------------------------------------
+-- adds of pending entries carry their contents
 all-adds-ok : (x : World) (u : Layout) (l : LedgerId) (n e : ℕ) (ps : List PendingAdd) → n ≤ x .writer (l .0) .lac
     → PendingOk (x .contents (l .0)) (x .acked (l .0)) u e ps → All (MessageOk x) (all-adds u l n e ps)
 all-adds-ok x u l n e [] k h = tt
@@ -231,6 +239,7 @@ all-adds-ok x u l n e (p ∷ ps) k h =
     all-append (MessageOk x) (adds u l e n p) (all-adds u l n (suc e) ps) (adds-to-ok x u l e n p (write-set (u .sizes) e) (h .0, k))
     (all-adds-ok x u l n (suc e) ps k (h .2))
 
+-- they go again
 pub resend-keeps : {x₀ : World} (ns : List Note) (c : Cluster) (l : LedgerId) → InvAt x₀ ns c → Keeps x₀ ns c (Resend l) (resend c l)
 resend-keeps {x₀} ns c l i =
     ask-cases c (Keeps x₀ ns c (Resend l)) (is-made (w .state)) (fault.Missing 1) _ i
@@ -260,6 +269,7 @@ lose-inv ns c l made o i =
     (fenced-becomes (world ns c) (l .0) (writer-of c (l .0)) (ledger-of c (l .0)) made o (i .writing (l .0)) (i .metadata (l .0)))
 
 -- close --------------------------------------------------------------------------------------------------------------
+-- a ledger is closed by its writer
 pub close-keeps : {x₀ : World} (ns : List Note) (c : Cluster) (l : LedgerId) → InvAt x₀ ns c → Keeps x₀ ns c (Close l) (close c l)
 close-keeps {x₀} ns c l i =
     ask-cases c K (is-made (w .state)) (fault.Missing 1) _ i
@@ -305,6 +315,7 @@ in-last y e h =
     let k : y .count ≡ suc (y .count - 1) = let s = y .some in omega arith in
     ap (λ n. fragment-below (y .fragments) n e) k ∙ cond-true _ _ _ (le-leb (last-first y) e h)
 
+-- a change behind leaves the fragments before it
 below-set : (fs : List Fragment) (i : ℕ) (f : Fragment) (n e : ℕ) → n ≤ i → fragment-below (set fs i f) n e ≡ fragment-below fs n e
 below-set fs i f zero e h = refl
 below-set fs i f (suc n) e h =
@@ -320,7 +331,9 @@ record ChangedAt (y : Layout) (n p b : ℕ) : Type 0 where
   below : (e : ℕ) → e < n → fragment-below (y .fragments) place e ≡ fragment-of y e
   within : place ≤ y .count
   start : place ≡ 0 → n ≡ getD (y .fragments) 0 no-fragment .first .0
+  after : Rises y → last-first y ≤ n → (i : ℕ) → suc i ≡ place → getD (y .fragments) i no-fragment .first .0 < n
 
+-- altered or added
 changed-at : (y : Layout) (n p b : ℕ) → room-for y n ≡ true → ChangedAt y n p b
 changed-at y n p b room = by (alters y n) refl
   where
@@ -332,7 +345,7 @@ changed-at y n p b room = by (alters y n) refl
         let c : y .count ≡ suc (y .count - 1) = let s = y .some in omega arith in
         record {
           place = y .count - 1;
-          count = ap (λ v. cond v (y .count) (min 8 (suc (y .count)))) t ∙ c;
+          count = ap (λ v. cond v (y .count) (min max-fragments (suc (y .count)))) t ∙ c;
           fragments = ap (λ v. set (y .fragments) (cond v (y .count - 1) (y .count)) f) t;
           inside = let s = y .some in let l = y .few in let g = y .eight in omega arith;
           below = λ e h.
@@ -340,68 +353,78 @@ changed-at y n p b room = by (alters y n) refl
               ∙ cond-false _ _ _ (lt-leb (last-first y) e (let z = eqb-true (last-first y) n t in omega arith)));
           within = omega arith;
           start = λ o. sym (eqb-true (last-first y) n t) ∙ ap (λ m. getD (y .fragments) m no-fragment .first .0) o;
+          after = λ rises _ i o.
+              let s = y .some in let r = rises .rising i (omega arith) in
+              let at : getD (y .fragments) (suc i) no-fragment .first .0 ≡ last-first y = ap (λ m. getD (y .fragments) m no-fragment .first .0) o in
+              let is : last-first y ≡ n = eqb-true (last-first y) n t in omega arith;
         }
     by false t =
-        let r : ltb (y .count) 8 ≡ true = elim (or-cases (alters y n) (ltb (y .count) 8) room) [ inl z ↦ absurd (both-ways (alters y n) t z) | inr z ↦ z ] in
-        let few : y .count < 8 = ltb-true (y .count) 8 r in
-        let more-count : min 8 (suc (y .count)) ≡ suc (y .count) = omega arith in
+        let r : ltb (y .count) max-fragments ≡ true = elim (or-cases (alters y n) (ltb (y .count) max-fragments) room) [ inl z ↦ absurd (both-ways (alters y n) t z) | inr z ↦ z ] in
+        let few : y .count < max-fragments = ltb-true (y .count) max-fragments r in
+        let more-count : min max-fragments (suc (y .count)) ≡ suc (y .count) = omega arith in
         record {
           place = y .count;
-          count = ap (λ v. cond v (y .count) (min 8 (suc (y .count)))) t ∙ more-count;
+          count = ap (λ v. cond v (y .count) (min max-fragments (suc (y .count)))) t ∙ more-count;
           fragments = ap (λ v. set (y .fragments) (cond v (y .count - 1) (y .count)) f) t;
           inside = let g = y .eight in omega arith;
           below = λ e h. refl;
           within = omega arith;
           start = λ o. let s = y .some in let v : ⊥ = omega arith in absurd v;
+          after = λ _ le i o.
+              let place-is : i ≡ y .count - 1 = omega arith in
+              let at : getD (y .fragments) i no-fragment .first .0 ≡ last-first y = ap (λ m. getD (y .fragments) m no-fragment .first .0) place-is in
+              let ne : last-first y ≡ n → ⊥ = eqb-false (last-first y) n t in omega arith;
         }
 
 module _ (y : Layout) (n p b : ℕ) (room : room-for y n ≡ true) where
-  z : ChangedAt y n p b
-  z = changed-at y n p b room
+  -- where it is
+  spot : ChangedAt y n p b
+  spot = changed-at y n p b room
 
-  new : Fragment
-  new = changed-fragment (last-fragment y) n p b
+  newest : Fragment
+  newest = changed-fragment (last-fragment y) n p b
 
-  changed-of : (e : ℕ) → fragment-of (changed-layout y n p b) e ≡ cond (leb n e) new (fragment-below (y .fragments) (z .place) e)
-  unfolding new
+  -- the fragment of an entry afterwards
+  changed-of : (e : ℕ) → fragment-of (changed-layout y n p b) e ≡ cond (leb n e) newest (fragment-below (y .fragments) (spot .place) e)
+  unfolding newest
   changed-of e =
-      ap (λ m. fragment-below (changed-layout y n p b .fragments) m e) (z .count) ∙ ap (λ fs. fragment-below fs (suc (z .place)) e) (z .fragments)
-      ∙ ap (λ (g : Fragment). cond (leb (g .first .0) e) g (fragment-below (set (y .fragments) (z .place) new) (z .place) e))
-      (getD-set-same (y .fragments) (z .place) new no-fragment (z .inside))
-      ∙ ap (λ g. cond (leb n e) new g) (below-set (y .fragments) (z .place) new (z .place) e (omega arith))
+      ap (λ m. fragment-below (changed-layout y n p b .fragments) m e) (spot .count) ∙ ap (λ fs. fragment-below fs (suc (spot .place)) e) (spot .fragments)
+      ∙ ap (λ (g : Fragment). cond (leb (g .first .0) e) g (fragment-below (set (y .fragments) (spot .place) newest) (spot .place) e))
+      (getD-set-same (y .fragments) (spot .place) newest no-fragment (spot .inside))
+      ∙ ap (λ g. cond (leb n e) newest g) (below-set (y .fragments) (spot .place) newest (spot .place) e (omega arith))
 
   -- entries before the change stay where they are
   changed-below : (e : ℕ) → e < n → fragment-of (changed-layout y n p b) e ≡ fragment-of y e
-  changed-below e h = changed-of e ∙ cond-false _ _ _ (lt-leb n e h) ∙ z .below e h
+  changed-below e h = changed-of e ∙ cond-false _ _ _ (lt-leb n e h) ∙ spot .below e h
 
-  -- the others have the new bookie at its position
+  -- the others have the newest bookie at its position
   changed-above : (e : ℕ) → n ≤ e → last-first y ≤ n → fragment-of (changed-layout y n p b) e .bookies ≡ set (fragment-of y e .bookies) p b
-  unfolding new
+  unfolding newest
   changed-above e h l =
       ap (λ (g : Fragment). g .bookies) (changed-of e ∙ cond-true _ _ _ (le-leb n e h))
       ∙ ap (λ (g : Fragment). set (g .bookies) p b) (sym (in-last y e (omega arith)))
 
+  -- it begins with the first unconfirmed entry at the latest
   changed-first : last-first (changed-layout y n p b) ≤ n
-  unfolding new
+  unfolding newest
   changed-first =
-      let c = z .count in
-      let k : changed-layout y n p b .count - 1 ≡ z .place = omega arith in
-      let f = ap (λ m. getD (changed-layout y n p b .fragments) m no-fragment) k ∙ ap (λ fs. getD fs (z .place) no-fragment) (z .fragments)
-      ∙ getD-set-same (y .fragments) (z .place) new no-fragment (z .inside) in
+      let c = spot .count in
+      let k : changed-layout y n p b .count - 1 ≡ spot .place = omega arith in
+      let f = ap (λ m. getD (changed-layout y n p b .fragments) m no-fragment) k ∙ ap (λ fs. getD fs (spot .place) no-fragment) (spot .fragments)
+      ∙ getD-set-same (y .fragments) (spot .place) newest no-fragment (spot .inside) in
       let g = ap (λ (h : Fragment). h .first .0) f in omega arith
 
-  -- the bookies stay different
-  changed-ok : LayoutOk y → not (member b (take (y .sizes .ensemble) (last-fragment y .bookies))) ≡ true → LayoutOk (changed-layout y n p b)
-  unfolding new
-  changed-ok h free =
+  -- the fragments still rise, and their bookies stay different
+  changed-ok : LayoutOk y → last-first y ≤ n → n ≤ max-entries → not (member b (take (y .sizes .ensemble) (last-fragment y .bookies))) ≡ true → LayoutOk (changed-layout y n p b)
+  unfolding newest
+  changed-ok h le few free =
       record {
-        first = rw (z .fragments)
-            (at-set-in (λ (f : Fragment). f .first .0 ≡ 0) (y .fragments) (z .place) 0 new no-fragment (z .inside) (λ o. z .start (sym o) ∙ h .first) (λ _. h .first));
-        full = λ i l. rw (z .fragments)
-            (at-set-in (λ (f : Fragment). y .sizes .ensemble ≤ length (f .bookies)) (y .fragments) (z .place) i new no-fragment (z .inside)
+        rises = record { first = first; rising = λ i l. rw (spot .fragments) (rising i l); last = let f = changed-first in omega arith };
+        full = λ i l. rw (spot .fragments)
+            (at-set-in (λ (f : Fragment). y .sizes .ensemble ≤ length (f .bookies)) (y .fragments) (spot .place) i newest no-fragment (spot .inside)
             (λ _. let e = length-set (last-fragment y .bookies) p b in let v = h .full (y .count - 1) last in omega arith) (λ ne. h .full i (within i l ne)));
-        apart = λ i l. rw (z .fragments)
-            (at-set-in (λ (f : Fragment). distinct (take (y .sizes .ensemble) (f .bookies)) ≡ true) (y .fragments) (z .place) i new no-fragment (z .inside)
+        apart = λ i l. rw (spot .fragments)
+            (at-set-in (λ (f : Fragment). distinct (take (y .sizes .ensemble) (f .bookies)) ≡ true) (y .fragments) (spot .place) i newest no-fragment (spot .inside)
             (λ _. ap distinct (take-of-set (y .sizes .ensemble) (last-fragment y .bookies) p b)
             ∙ distinct-set (take (y .sizes .ensemble) (last-fragment y .bookies)) p b (h .apart (y .count - 1) last)
             (not-true (member b (take (y .sizes .ensemble) (last-fragment y .bookies))) free))
@@ -411,8 +434,23 @@ module _ (y : Layout) (n p b : ℕ) (room : room-for y n ≡ true) where
       last : y .count - 1 < y .count
       last = let s = y .some in omega arith
 
-      within : (i : ℕ) → i < changed-layout y n p b .count → (i ≡ z .place → ⊥) → i < y .count
-      within i l ne = let c = z .count in let v = z .within in omega arith
+      within : (i : ℕ) → i < changed-layout y n p b .count → (i ≡ spot .place → ⊥) → i < y .count
+      within i l ne = let c = spot .count in let v = spot .within in omega arith
+
+      first : getD (changed-layout y n p b .fragments) 0 no-fragment .first .0 ≡ 0
+      first =
+          rw (spot .fragments)
+          (at-set-in (λ (f : Fragment). f .first .0 ≡ 0) (y .fragments) (spot .place) 0 newest no-fragment (spot .inside)
+          (λ o. spot .start (sym o) ∙ h .rises .first) (λ _. h .rises .first))
+
+      rising : (i : ℕ) → suc i < changed-layout y n p b .count
+          → getD (set (y .fragments) (spot .place) newest) i no-fragment .first .0 < getD (set (y .fragments) (spot .place) newest) (suc i) no-fragment .first .0
+      rising i l =
+          let c = spot .count in
+          subst (λ (f : Fragment). f .first .0 < getD (set (y .fragments) (spot .place) newest) (suc i) no-fragment .first .0)
+          (sym (getD-set-other (y .fragments) (spot .place) i newest no-fragment (λ o. omega arith)))
+          (at-set-in (λ (f : Fragment). getD (y .fragments) i no-fragment .first .0 < f .first .0) (y .fragments) (spot .place) (suc i) newest no-fragment (spot .inside)
+          (λ o. spot .after (h .rises) le i o) (λ ne. h .rises .rising i (within (suc i) l ne)))
 
   -- pending entries lose the mark at the position that changes
   changed-pending : (ts : List Body) (A : ℕ → ℕ → Bool) (e : ℕ) (ps : List PendingAdd) → n ≤ e → last-first y ≤ n → PendingOk ts A y e ps
@@ -426,6 +464,7 @@ module _ (y : Layout) (n p b : ℕ) (room : room-for y n ≡ true) where
     changed-pending ts A (suc e) ps (omega arith) h (g .2),
   )
 
+-- what goes to the newest bookie carries its content
 adds-at-ok : (x : World) (u y : Layout) (l : LedgerId) (n q : ℕ) (b : BookieId) (e : ℕ) (ps : List PendingAdd) → n ≤ x .writer (l .0) .lac
     → PendingOk (x .contents (l .0)) (x .acked (l .0)) u e ps → All (MessageOk x) (adds-at y l n q b e ps)
 adds-at-ok x u y l n q b e [] k h = tt
@@ -433,6 +472,7 @@ adds-at-ok x u y l n q b e (p ∷ ps) k h =
     cond-both (member q (write-set (y .sizes) e)) _ _ (All (MessageOk x)) (λ _. ((h .0, k), adds-at-ok x u y l n q b (suc e) ps k (h .2)))
     (λ _. adds-at-ok x u y l n q b (suc e) ps k (h .2))
 
+-- an ensemble is changed
 pub change-keeps : {x₀ : World} (ns : List Note) (c : Cluster) (l : LedgerId) (p : Position) (b : BookieId) → InvAt x₀ ns c
     → Keeps x₀ ns c (ChangeEnsemble l p b) (change-ensemble c l p b)
 change-keeps {x₀} ns c l p b i =
@@ -478,7 +518,7 @@ change-keeps {x₀} ns c l p b i =
         inL = ledger-row (c .store .ledgers) (l .0) (i .ledgers) q30
 
         ok : LayoutOk y
-        ok = changed-ok (w .layout) (w .lac) (p .0) (b .0) room (old .layout) free
+        ok = changed-ok (w .layout) (w .lac) (p .0) (b .0) room (old .layout) (old .first) (let u = old .upto in let v = old .small in omega arith) free
 
         firm : (e : ℕ) → e < w .lac → y .sizes .ack ≤ tally (acked-by ns (l .0) e) (bookies-of y e)
         firm e k =

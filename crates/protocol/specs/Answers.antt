@@ -10,6 +10,7 @@ use Rattle.protocol.specs.declared.faults.ClientFault.the-variants as client
 use Rattle.protocol.specs.declared.faults.StepFault.{StepFault}
 use Rattle.protocol.specs.declared.faults.StepFault.the-variants as fault
 
+-- 6 to 13, and what the store refused as it is
 abbrev pub client-number : ClientFault → ℕ
 client-number client.Ensemble = 6
 client-number client.Fenced = 7
@@ -20,6 +21,7 @@ client-number client.Fragments = 12
 client-number client.Unfinished = 13
 client-number (client.Store f) = store-number f
 
+-- 4, 5, and what the client refused as it is
 abbrev pub step-number : StepFault → ℕ
 step-number (fault.Missing w) = 4
 step-number fault.Taken = 5
@@ -41,6 +43,7 @@ refusal Served = 0
 refusal (Unserved f) = 0
 refusal Done = 0
 
+-- the step was not refused
 abbrev pub is-accepted : Answer → Bool
 is-accepted (Refused f) = false
 is-accepted (Version v) = true
@@ -67,6 +70,7 @@ word-of (fault.Missing w) = w
 word-of fault.Taken = 0
 word-of (fault.Client f) = 0
 
+-- the value that is printed
 abbrev pub value : Answer → ℤ
 value (Refused f) = pos (word-of f)
 value (Version v) = pos (v .0)

@@ -37,6 +37,7 @@ new-bookie n = record { up = true; entries = []; fences = replicate max-ledgers 
 abbrev pub no-bookie : Bookie
 no-bookie = record { up = false; entries = []; fences = replicate max-ledgers false; space = 0 }
 
+-- this is a copy of entry e of ledger l
 abbrev pub is-copy : Held → ℕ → ℕ → Bool
 is-copy h l e = eqb (h .ledger .0) l && eqb (h .entry .0) e
 
@@ -45,13 +46,16 @@ abbrev pub find : List Held → ℕ → ℕ → Option Held
 find [] l e = None
 find (h ∷ hs) l e = cond (is-copy h l e) (Some h) (find hs l e)
 
+-- there is one
 abbrev pub is-there : {A : Type 0} → Option A → Bool
 is-there None = false
 is-there (Some a) = true
 
+-- the bookie has a copy of entry e of ledger l
 abbrev pub holds : Bookie → ℕ → ℕ → Bool
 holds b l e = is-there (find (b .entries) l e)
 
+-- the bookie is fenced for ledger l
 abbrev pub is-fenced : Bookie → ℕ → Bool
 is-fenced b l = numbered (b .fences) l false
 
@@ -70,6 +74,7 @@ abbrev pub agrees : Option Held → Body → Bool
 agrees None body = true
 agrees (Some h) body = sameBytes (content (h .body)) (content body)
 
+-- in range, up, not fenced or for a recovery, no other body, held already or space for it
 abbrev pub add-answer : Bookie → LedgerId → EntryId → Lac → Body → Bool → Result (Unit {0}) BookieFault
 add-answer b l e n body recovery =
     question (add-fits l e n) fault.Range
@@ -89,6 +94,7 @@ add-after b l e n body recovery =
     (cond (holds b (l .0) (e .0)) b (holding b (record { ledger = l; entry = e; lac = n; body = body }))) b
 
 -- fence --------------------------------------------------------------------------------------------------------------
+-- in range, up; the LAC that the bookie has been told
 abbrev pub fence-answer : Bookie → LedgerId → Result Lac BookieFault
 fence-answer b l =
     question (is-ledger (l .0)) fault.Range (question (b .up) fault.Stopped (Ok (lac-id (highest-lac (b .entries) (l .0)))))
@@ -97,10 +103,12 @@ fence-answer b l =
 abbrev pub fencing : Bookie → LedgerId → Bookie
 fencing b l = record { up = b .up; entries = b .entries; fences = renumbered (b .fences) (l .0) true; space = b .space }
 
+-- a refusal fences nothing
 abbrev pub fence-after : Bookie → LedgerId → Bookie
 fence-after b l = when-ok (fence-answer b l) (fencing b l) b
 
 -- read ---------------------------------------------------------------------------------------------------------------
+-- in range, up; the copy, if there is one
 abbrev pub read-answer : Bookie → LedgerId → EntryId → Result (Option Held) BookieFault
 read-answer b l e =
     question (is-ledger (l .0) && is-entry (e .0)) fault.Range
@@ -110,9 +118,11 @@ read-answer b l e =
 abbrev pub recovery-read-answer : Bookie → LedgerId → EntryId → Result (Option Held) BookieFault
 recovery-read-answer b l e = and-then (fence-answer b l) (read-answer (fence-after b l) l e)
 
+-- so it leaves a fence, whether the entry is there or not
 abbrev pub recovery-read-after : Bookie → LedgerId → EntryId → Bookie
 recovery-read-after b l e = fence-after b l
 
 -- stop and start -----------------------------------------------------------------------------------------------------
+-- nothing else changes
 abbrev pub with-up : Bookie → Bool → Bookie
 with-up b u = record { up = u; entries = b .entries; fences = b .fences; space = b .space }

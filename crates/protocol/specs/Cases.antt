@@ -32,6 +32,7 @@ from-two n = with-pending (new-writer (changed-layout (first-layout (sizes-of 3 
 abbrev pub from-two-changed : ℕ → Layout
 from-two-changed n = new-layout (from-two n) (record { 0 = 1 }) (bookie-id 4)
 
+-- some content
 abbrev pub oak : Body
 oak = body-of (111 ∷ 97 ∷ 107 ∷ [])
 
@@ -39,6 +40,7 @@ oak = body-of (111 ∷ 97 ∷ 107 ∷ [])
 abbrev pub fenced-bookie : Bookie
 fenced-bookie = fence-after (add-after (new-bookie 9) (ledger-id 1) (entry-id 0) (lac-id 0) oak false) (ledger-id 1)
 
+-- what comes out
 pub record Cases : Type 0 where
   -- with E 5 and W 3, entry 4 has positions 4, 0, 1
   pub wraps : write-set (sizes-of 5 3 2) 4 ≡ 4 ∷ 0 ∷ 1 ∷ []

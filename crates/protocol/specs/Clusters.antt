@@ -18,6 +18,7 @@ use Rattle.protocol.specs.Recoverers.{no-recoverer}
 use Rattle.protocol.specs.declared.recoverers.Phase.{Phase}
 use Rattle.protocol.specs.declared.recoverers.Recoverer.{Recoverer}
 
+-- bookies by position in the list, writers by ledger, recoverers by number
 pub record Cluster : Type 0 where
   pub bookies : List Bookie
   pub store : Store
@@ -36,12 +37,15 @@ empty spaces changes room =
       queue = record { room = room; waiting = [] };
     }
 
+-- bookie b
 abbrev pub bookie-of : Cluster → ℕ → Bookie
 bookie-of c b = getD (c .bookies) b no-bookie
 
+-- the writer of ledger l
 abbrev pub writer-of : Cluster → ℕ → Writer
 writer-of c l = numbered (c .writers) l no-writer
 
+-- recoverer r
 abbrev pub recoverer-of : Cluster → ℕ → Recoverer
 recoverer-of c r = numbered (c .recoverers) r no-recoverer
 
@@ -59,13 +63,16 @@ layout-read c r = recoverer-of c (r .0) .layout
 abbrev pub ledger-of : Cluster → ℕ → Metadata
 ledger-of c l = metadata-of (c .store) l
 
+-- with x as bookie b
 abbrev pub with-bookie : Cluster → ℕ → Bookie → Cluster
 with-bookie c b x =
     record { bookies = set (c .bookies) b x; store = c .store; writers = c .writers; recoverers = c .recoverers; queue = c .queue }
 
+-- with another store
 abbrev pub with-store : Cluster → Store → Cluster
 with-store c s = record { bookies = c .bookies; store = s; writers = c .writers; recoverers = c .recoverers; queue = c .queue }
 
+-- with w as the writer of ledger l
 abbrev pub with-writer : Cluster → ℕ → Writer → Cluster
 with-writer c l w =
     record {
@@ -76,6 +83,7 @@ with-writer c l w =
       queue = c .queue;
     }
 
+-- with x as recoverer r
 abbrev pub with-recoverer : Cluster → ℕ → Recoverer → Cluster
 with-recoverer c r x =
     record {
@@ -86,8 +94,10 @@ with-recoverer c r x =
       queue = c .queue;
     }
 
+-- with other messages waiting
 abbrev pub with-queue : Cluster → Queue → Cluster
 with-queue c q = record { bookies = c .bookies; store = c .store; writers = c .writers; recoverers = c .recoverers; queue = q }
 
+-- messages are sent together
 abbrev pub send : Cluster → List Message → Cluster
 send c new = with-queue c (sent (c .queue) new)

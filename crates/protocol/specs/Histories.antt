@@ -37,6 +37,7 @@ pub record Event : Type 0 where
 abbrev pub History : Type 0
 History = List Event
 
+-- the event of step s from cluster c
 abbrev pub event : Cluster → Step → Event
 event c s = record { before = c; did = s; said = step c s .answer }
 

@@ -1,6 +1,7 @@
 -- What holds after every list of steps from a cluster set up empty.
 use mathlib.Core.Path.{_≡_}
 use mathlib.Core.Bool.{Bool, true, false}
+use mathlib.Core.List.{_∷_}
 use mathlib.Core.Logic.{_⊎_}
 use Prim.Native.Nat.{ℕ, _≤_, _<_}
 use Rattle.std.specs.shelf.Lists.{All}
@@ -10,16 +11,18 @@ use Rattle.ledgers.specs.declared.ids.Lac.{Lac}
 use Rattle.ledgers.specs.declared.ids.LedgerId.{LedgerId}
 use Rattle.ledgers.specs.declared.ids.RecovererId.{RecovererId}
 use Rattle.ledgers.specs.declared.ids.Version.{Version}
+use Rattle.ledgers.specs.declared.steps.Step.{Step}
 use Rattle.layout.specs.WriteSets.{tally, distinct}
-use Rattle.layout.specs.Layouts.{bookies-of}
+use Rattle.layout.specs.Layouts.{Rises, bookies-of}
 use Rattle.layout.specs.declared.fragments.Layout.{Layout}
 use Rattle.messages.specs.declared.entries.Held.{Held}
 use Rattle.messages.specs.declared.metadata.LedgerState.the-variants.{InRecovery, Closed}
 use Rattle.protocol.specs.Bookies.{holds}
 use Rattle.protocol.specs.Recoverers.{at-work, is-ended}
 use Rattle.protocol.specs.Clusters.{Cluster, bookie-of, recoverer-of, phase-of, recovering, layout-read, ledger-of}
-use Rattle.protocol.specs.Steps.{finish}
-use Rattle.protocol.specs.Histories.{History, Runs, Reached, Once, Appended, Confirmed, ClosedWith, Covered}
+use Rattle.protocol.specs.Answers.{is-accepted}
+use Rattle.protocol.specs.Steps.{finish, step}
+use Rattle.protocol.specs.Histories.{History, event, Runs, Reached, Once, Appended, Confirmed, ClosedWith, Covered}
 use Rattle.protocol.specs.declared.answers.Answer.{Answer}
 use Rattle.protocol.specs.declared.answers.Answer.the-variants as answer
 use Rattle.protocol.specs.declared.recoverers.Phase.{Phase}
@@ -29,12 +32,15 @@ use Rattle.protocol.specs.declared.recoverers.Phase.the-variants.{Idle, Fencin
 abbrev pub IsClosed : Cluster → LedgerId → Type 0
 IsClosed c l = ledger-of c (l .0) .state ≡ Closed
 
+-- the closing entry of ledger l
 abbrev pub closing-of : Cluster → LedgerId → Lac
 closing-of c l = ledger-of c (l .0) .closing
 
+-- its layout
 abbrev pub layout-of : Cluster → LedgerId → Layout
 layout-of c l = ledger-of c (l .0) .layout
 
+-- its version
 abbrev pub version-of : Cluster → LedgerId → Version
 version-of c l = ledger-of c (l .0) .version
 
@@ -62,11 +68,14 @@ pub record Word (h : History) (c : Cluster) : Type 0 where
   pub kept : (l : LedgerId) (e : EntryId) → IsClosed c l → UpToClose c l e → AckQuorumHolds c l e
   -- every copy in any bookie is true
   pub copies : (b : ℕ) → All (TrueCopy h) (bookie-of c b .entries)
+  -- the fragments of every ledger rise from entry 0 on
+  pub fragments : (l : LedgerId) → Rises (layout-of c l)
   -- once the fence round of a recovery was covered, no entry appended to that ledger afterwards is ever confirmed
   pub shut : (h₁ : History) (c₁ : Cluster) (r : RecovererId) (l : LedgerId) (e : EntryId) (body : Body)
       → Reached h₁ c₁ → Runs h₁ c₁ h c → Covered h₁ c₁ r l
       → Appended h l e body → (Appended h₁ l e body → ⊥) → Confirmed h l e → ⊥
 
+-- after every list of steps
 abbrev pub Law : Type 0
 Law = (h : History) (c : Cluster) → Reached h c → Word h c
 
@@ -84,17 +93,30 @@ pub record Rounds (h : History) (c : Cluster) : Type 0 where
   pub fenced : (r : RecovererId) → past-fences (phase-of c r) ≡ true → Covered h c r (recovering c r)
   -- the layout that a recoverer at work has read is that of its ledger, until this is closed
   pub read : (r : RecovererId) → at-work (phase-of c r) ≡ true
-    → IsClosed c (recovering c r) ⊎ (layout-read c r ≡ layout-of c (recovering c r))
+      → IsClosed c (recovering c r) ⊎ (layout-read c r ≡ layout-of c (recovering c r))
   -- a ledger in recovery stays so, at the same version, until it is closed
   pub ends : (h₁ : History) (c₁ : Cluster) (l : LedgerId) → Reached h₁ c₁ → Runs h₁ c₁ h c → ledger-of c₁ (l .0) .state ≡ InRecovery
-    → IsClosed c l ⊎ ((ledger-of c (l .0) .state ≡ InRecovery) × (version-of c l .0 ≡ version-of c₁ l .0))
+      → IsClosed c l ⊎ ((ledger-of c (l .0) .state ≡ InRecovery) × (version-of c l .0 ≡ version-of c₁ l .0))
   -- a closed ledger stays closed, at the same entry
   pub stays : (h₁ : History) (c₁ : Cluster) (l : LedgerId) → Reached h₁ c₁ → Runs h₁ c₁ h c → IsClosed c₁ l
-    → IsClosed c l × (closing-of c l .0 ≡ closing-of c₁ l .0)
+      → IsClosed c l × (closing-of c l .0 ≡ closing-of c₁ l .0)
   -- an ended recoverer that finds another version than its own has lost the race: the ledger is closed, and its finish
   -- answers the closing entry
   pub late : (r : RecovererId) → is-ended (phase-of c r) ≡ true → (version-of c (recovering c r) .0 ≡ recoverer-of c (r .0) .version .0 → ⊥)
-    → IsClosed c (recovering c r) × (finish c r .answer ≡ answer.ClosingEntry (closing-of c (recovering c r)))
+      → IsClosed c (recovering c r) × (finish c r .answer ≡ answer.ClosingEntry (closing-of c (recovering c r)))
 
+-- after every list of steps
 abbrev pub RoundsLaw : Type 0
 RoundsLaw = (h : History) (c : Cluster) → Reached h c → Rounds h c
+
+-- with every history that reached c, step s reaches c′, and all of this holds there
+abbrev pub GoesOn : Cluster → Step → Cluster → Type 0
+GoesOn c s c′ = (h : History) → Reached h c → Reached (event c s ∷ h) c′ × Word (event c s ∷ h) c′ × Rounds (event c s ∷ h) c′
+
+-- every step goes on
+abbrev pub StepsGoOn : Type 0
+StepsGoOn = (c : Cluster) (s : Step) → GoesOn c s (step c s .next)
+
+-- a step that is refused leaves the cluster as it was
+abbrev pub RefusalsAlterNothing : Type 0
+RefusalsAlterNothing = (c : Cluster) (s : Step) → is-accepted (step c s .answer) ≡ false → step c s .next ≡ c

@@ -32,6 +32,7 @@ use Rattle.protocol.specs.declared.recoverers.Phase.{Phase}
 use Rattle.protocol.specs.declared.recoverers.Phase.the-variants.{Idle, Fencing, Reading, Writing, Ended}
 use Rattle.protocol.specs.declared.recoverers.Recoverer.{Recoverer}
 
+-- it has a ledger to recover
 abbrev pub at-work : Phase → Bool
 at-work Idle = false
 at-work (Fencing m) = true
@@ -39,6 +40,7 @@ at-work (Reading m) = true
 at-work (Writing m) = true
 at-work Ended = true
 
+-- it knows where to close
 abbrev pub is-ended : Phase → Bool
 is-ended Idle = false
 is-ended (Fencing m) = false
@@ -46,6 +48,7 @@ is-ended (Reading m) = false
 is-ended (Writing m) = false
 is-ended Ended = true
 
+-- one that is idle
 abbrev pub no-recoverer : Recoverer
 no-recoverer =
     record {
@@ -64,11 +67,13 @@ abbrev pub by-store : {A : Type 0} → Result A StoreFault → Result A ClientFa
 by-store (Ok a) = Ok a
 by-store (Err f) = Err (fault.Store f)
 
+-- nobody recovers or closed the ledger
 abbrev pub is-open : LedgerState → Bool
 is-open Open = true
 is-open InRecovery = false
 is-open Closed = false
 
+-- the ledger is closed
 abbrev pub is-over : LedgerState → Bool
 is-over Open = false
 is-over InRecovery = false
@@ -79,6 +84,7 @@ abbrev pub begin-answer : Store → LedgerId → Metadata → LedgerState → Re
 begin-answer s l m st =
     question (not (is-over st)) fault.Closed (cond (is-open st) (by-store (put-answer s l (m .version))) (Ok (m .version)))
 
+-- only an open ledger takes a put
 abbrev pub begin-store : Store → LedgerId → Metadata → LedgerState → Store
 begin-store s l m st = cond (is-open st) (put-after s l (m .version) InRecovery (m .layout) (lac-id 0)) s
 
@@ -87,9 +93,11 @@ abbrev pub recover-with : Store → LedgerId → Result Metadata StoreFault → 
 recover-with s l (Ok m) = begin-answer s l m (m .state)
 recover-with s l (Err f) = Err (fault.Store f)
 
+-- what the beginning of a recovery answers
 abbrev pub recover-answer : Store → LedgerId → Result Version ClientFault
 recover-answer s l = recover-with s l (get-answer s l)
 
+-- the store after it
 abbrev pub recover-store : Store → LedgerId → Store
 recover-store s l = begin-store s l (metadata-of s (l .0)) (metadata-of s (l .0) .state)
 
@@ -99,6 +107,7 @@ new-recoverer l v y =
     record { phase = Fencing no-marks; ledger = l; version = v; layout = y; settled = lac-id (last-first y); lac = lac-id 0; body = no-body }
 
 -- replies ------------------------------------------------------------------------------------------------------------
+-- with n entries settled, in another phase
 abbrev pub in-phase : Recoverer → ℕ → Phase → Recoverer
 in-phase x n ph =
     record {
@@ -128,6 +137,7 @@ write-back x n body =
       body = body;
     }
 
+-- the higher of two
 abbrev pub higher : ℕ → ℕ → ℕ
 higher a b = cond (ltb a b) b a
 
@@ -151,6 +161,7 @@ hits x m = tally (marked m) (write-set (x .layout .sizes) (x .settled .0))
 abbrev pub fenced-on : Recoverer → List Bool → ℕ → Recoverer
 fenced-on x m n = in-phase x n (cond (covers (x .layout .sizes) (marked m)) (read-on n) (Fencing m))
 
+-- a fence answer of bookie b that tells LAC n
 abbrev pub heard-fenced : Recoverer → List Bool → BookieId → Lac → Recoverer
 heard-fenced x m b n = fenced-on x (fence-marks x m (b .0)) (higher (x .settled .0) (n .0))
 
@@ -158,6 +169,7 @@ heard-fenced x m b n = fenced-on x (fence-marks x m (b .0)) (higher (x .settled 
 abbrev pub absent-on : Recoverer → List Bool → Recoverer
 absent-on x m = in-phase x (x .settled .0) (cond (leb (blocking (x .layout .sizes)) (hits x m)) Ended (Reading m))
 
+-- bookie b does not hold the entry at hand
 abbrev pub heard-absent : Recoverer → List Bool → BookieId → Recoverer
 heard-absent x m b = absent-on x (entry-marks x m (b .0))
 
@@ -167,6 +179,7 @@ written-on x m =
     cond (leb (x .layout .sizes .ack) (hits x m)) (in-phase x (next (x .settled .0)) (read-on (next (x .settled .0))))
     (in-phase x (x .settled .0) (Writing m))
 
+-- bookie b holds the entry at hand
 abbrev pub heard-written : Recoverer → List Bool → BookieId → Recoverer
 heard-written x m b = written-on x (entry-marks x m (b .0))
 
@@ -174,6 +187,7 @@ heard-written x m b = written-on x (entry-marks x m (b .0))
 abbrev pub at-hand : Recoverer → ℕ → ℕ → Bool
 at-hand x l e = eqb l (x .ledger .0) && eqb e (x .settled .0)
 
+-- only fence answers of its ledger count
 abbrev pub while-fencing : Recoverer → List Bool → Message → Recoverer
 while-fencing x m (Fence r l b) = x
 while-fencing x m (RecoveryRead r l b e) = x
@@ -187,6 +201,7 @@ while-fencing x m (Found r l b e n body) = x
 while-fencing x m (RecoveryAdded r l b e) = x
 while-fencing x m (Refused r l b f) = x
 
+-- only answers for the entry at hand count: absent, or found
 abbrev pub while-reading : Recoverer → List Bool → Message → Recoverer
 while-reading x m (Fence r l b) = x
 while-reading x m (RecoveryRead r l b e) = x
@@ -200,6 +215,7 @@ while-reading x m (Found r l b e n body) = cond (at-hand x (l .0) (e .0)) (write
 while-reading x m (RecoveryAdded r l b e) = x
 while-reading x m (Refused r l b f) = x
 
+-- only good replies for the entry at hand count
 abbrev pub while-writing : Recoverer → List Bool → Message → Recoverer
 while-writing x m (Fence r l b) = x
 while-writing x m (RecoveryRead r l b e) = x
@@ -247,6 +263,7 @@ asks-in (Reading m) x r = asks-write-set x m (λ b. RecoveryRead r (x .ledger) b
 asks-in (Writing m) x r = asks-write-set x m (λ b. RecoveryAdd r (x .ledger) b (entry-id (x .settled .0)) (x .lac) (x .body))
 asks-in Ended x r = []
 
+-- the requests of the phase it is in
 abbrev pub asks : Recoverer → RecovererId → List Message
 asks x r = asks-in (x .phase) x r
 
@@ -272,8 +289,10 @@ abbrev pub finished : Recoverer → Store → Result Version StoreFault → Resu
 finished x s (Ok v) = Ok (x .settled)
 finished x s (Err f) = cond (is-version f) (Ok (metadata-of s (x .ledger .0) .closing)) (Err (fault.Store f))
 
+-- the entry that the ledger is closed at
 abbrev pub finish-answer : Recoverer → Store → Result Lac ClientFault
 finish-answer x s = question (is-ended (x .phase)) fault.Unfinished (finished x s (put-answer s (x .ledger) (finish-version x s)))
 
+-- the store after it
 abbrev pub finish-store : Recoverer → Store → Store
 finish-store x s = put-after s (x .ledger) (finish-version x s) Closed (x .layout) (x .settled)

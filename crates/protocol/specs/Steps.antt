@@ -56,6 +56,7 @@ pub record Outcome : Type 0 where
   pub answer : Answer
   pub next : Cluster
 
+-- answered so, with this cluster after it
 abbrev pub done : Answer → Cluster → Outcome
 done a c = record { answer = a; next = c }
 
@@ -78,6 +79,7 @@ abbrev pub waiting : Cluster → Outcome
 waiting c = done (answer.Waiting (length (c .queue .waiting))) c
 
 -- create -------------------------------------------------------------------------------------------------------------
+-- the ledger is in store s, and has a writer
 abbrev pub created : Cluster → LedgerId → Layout → Store → Version → Outcome
 created c l y s v = done (answer.Version v) (with-writer (with-store c s) (l .0) (new-writer y))
 
@@ -104,12 +106,14 @@ create c l e w k bs =
 abbrev pub with-its-writer : Cluster → LedgerId → (Writer → Outcome) → Outcome
 with-its-writer c l k = ask c (is-made (writer-of c (l .0) .state)) (fault.Missing 1) (k (writer-of c (l .0)))
 
+-- the writer appends: the entry
 abbrev pub append : Cluster → LedgerId → Body → Outcome
 append c l body =
     with-its-writer c l
     (λ w. by-client c (append-answer w)
     (λ e. done (answer.Entry e) (send (with-writer c (l .0) (appended w body)) (append-sends w l body))))
 
+-- the writer resends: how many messages wait
 abbrev pub resend : Cluster → LedgerId → Outcome
 resend c l = with-its-writer c l (λ w. by-client c (resend-answer w) (λ _. waiting (send c (resends w l))))
 
@@ -117,28 +121,34 @@ resend c l = with-its-writer c l (λ w. by-client c (resend-answer w) (λ _. wai
 abbrev pub lose : Cluster → LedgerId → Writer → Outcome
 lose c l w = done answer.Lost (with-writer c (l .0) (fenced-writer w))
 
+-- the ledger is lost, or has its layout changed in store s
 abbrev pub changed : Cluster → LedgerId → Writer → Position → BookieId → Store → Option EntryId → Outcome
 changed c l w p b s None = lose c l w
 changed c l w p b s (Some e) =
     done (answer.FirstEntry e) (send (with-writer (with-store c s) (l .0) (changed-writer w p b)) (change-sends w l p b))
 
+-- the writer changes its ensemble: the first entry of the last fragment
 abbrev pub change-ensemble : Cluster → LedgerId → Position → BookieId → Outcome
 change-ensemble c l p b =
     with-its-writer c l
     (λ w. ask c (ltb (b .0) (length (c .bookies))) (fault.Missing 3)
     (by-client c (change-answer w (c .store) l p b) (changed c l w p b (change-store w (c .store) l p b))))
 
+-- the ledger is lost, or closed in store s
 abbrev pub closed : Cluster → LedgerId → Writer → Store → Option Lac → Outcome
 closed c l w s None = lose c l w
 closed c l w s (Some n) = done (answer.ClosingEntry n) (with-writer (with-store c s) (l .0) (closed-writer w))
 
+-- the writer closes: the closing entry
 abbrev pub close : Cluster → LedgerId → Outcome
 close c l = with-its-writer c l (λ w. by-client c (close-answer w (c .store) l) (closed c l w (close-store w (c .store) l)))
 
 -- the recoverers' steps ----------------------------------------------------------------------------------------------
+-- x is the recoverer, and sends its fences
 abbrev pub begun : Cluster → RecovererId → Recoverer → Outcome
 begun c r x = done (answer.Version (x .version)) (send (with-recoverer c (r .0) x) (asks x r))
 
+-- recoverer r begins with ledger l: the version
 abbrev pub recover : Cluster → RecovererId → LedgerId → Outcome
 recover c r l =
     ask c (is-recoverer (r .0)) (fault.Missing 1)
@@ -151,6 +161,7 @@ recover c r l =
 abbrev pub with-its-recoverer : Cluster → RecovererId → (Recoverer → Outcome) → Outcome
 with-its-recoverer c r k = ask c (at-work (phase-of c r)) (fault.Missing 1) (k (recoverer-of c (r .0)))
 
+-- its unanswered requests go again: how many messages wait
 abbrev pub ask-again : Cluster → RecovererId → Outcome
 ask-again c r = with-its-recoverer c r (λ x. waiting (send c (asks x r)))
 
@@ -170,27 +181,33 @@ unless-stopped refused.Fenced m = m ∷ []
 unless-stopped refused.OtherBody m = m ∷ []
 unless-stopped refused.Full m = m ∷ []
 
+-- what goes back to the writer
 abbrev pub add-reply : LedgerId → BookieId → EntryId → Result (Unit {0}) BookieFault → List Message
 add-reply l b e (Ok u) = Added l b e ∷ []
 add-reply l b e (Err f) = unless-stopped f (AddRefused l b e f)
 
+-- what goes back to the recoverer: of an add,
 abbrev pub recovery-add-reply : RecovererId → LedgerId → BookieId → EntryId → Result (Unit {0}) BookieFault → List Message
 recovery-add-reply r l b e (Ok u) = RecoveryAdded r l b e ∷ []
 recovery-add-reply r l b e (Err f) = unless-stopped f (Refused r l b f)
 
+-- of a fence,
 abbrev pub fence-reply : RecovererId → LedgerId → BookieId → Result Lac BookieFault → List Message
 fence-reply r l b (Ok n) = Fenced r l b n ∷ []
 fence-reply r l b (Err f) = unless-stopped f (Refused r l b f)
 
+-- of a read
 abbrev pub read-reply : RecovererId → LedgerId → BookieId → EntryId → Result (Option Held) BookieFault → List Message
 read-reply r l b e (Ok None) = Absent r l b e ∷ []
 read-reply r l b e (Ok (Some h)) = Found r l b e (h .lac) (h .body) ∷ []
 read-reply r l b e (Err f) = unless-stopped f (Refused r l b f)
 
+-- what the bookie did, as an answer
 abbrev pub served : {A : Type 0} → Result A BookieFault → Answer
 served (Ok a) = answer.Served
 served (Err f) = answer.Unserved f
 
+-- a reply makes of the writer what it does: the LAC
 abbrev pub to-writer : Cluster → LedgerId → BookieId → EntryId → Result (Unit {0}) BookieFault → Outcome
 to-writer c l b e a =
     done (answer.Confirmed (lac-id (reply-after (writer-of c (l .0)) (b .0) (e .0) a .lac)))
@@ -204,6 +221,7 @@ standing (Reading m) n = answer.Settled n
 standing (Writing m) n = answer.Settled n
 standing Ended n = answer.Settled n
 
+-- a reply makes of the recoverer what it does: what is settled
 abbrev pub to-recoverer : Cluster → RecovererId → Message → Outcome
 to-recoverer c r m =
     done (standing (heard (recoverer-of c (r .0)) m .phase) (heard (recoverer-of c (r .0)) m .settled))
@@ -235,6 +253,7 @@ act c (Refused r l b f) = to-recoverer c r (Refused r l b f)
 abbrev pub waits : Cluster → MessagePlace → Bool
 waits c m = ltb (m .0) (length (c .queue .waiting))
 
+-- the message at this place
 abbrev pub message-at : Cluster → MessagePlace → Message
 message-at c m = getD (c .queue .waiting) (m .0) no-message
 
@@ -242,19 +261,23 @@ message-at c m = getD (c .queue .waiting) (m .0) no-message
 abbrev pub deliver : Cluster → MessagePlace → Outcome
 deliver c m = ask c (waits c m) (fault.Missing 1) (act (with-queue c (without (c .queue) (m .0))) (message-at c m))
 
+-- a copy goes to the end: how many messages wait
 abbrev pub duplicate : Cluster → MessagePlace → Outcome
 duplicate c m = ask c (waits c m) (fault.Missing 1) (waiting (with-queue c (sent-one (c .queue) (message-at c m))))
 
+-- the message is lost: how many messages wait
 abbrev pub discard : Cluster → MessagePlace → Outcome
 discard c m = ask c (waits c m) (fault.Missing 1) (waiting (with-queue c (without (c .queue) (m .0))))
 
 -- a bookie stops or starts -------------------------------------------------------------------------------------------
+-- bookie b is stopped or started
 abbrev pub turn : Cluster → BookieId → Bool → Outcome
 turn c b u =
     ask c (ltb (b .0) (length (c .bookies))) (fault.Missing 1)
     (done answer.Done (with-bookie c (b .0) (with-up (bookie-of c (b .0)) u)))
 
 -- all ----------------------------------------------------------------------------------------------------------------
+-- every step has one definition
 abbrev pub step : Cluster → Step → Outcome
 step c (Create l e w k bs) = create c l e w k bs
 step c (Append l body) = append c l body

@@ -28,9 +28,11 @@ pub record Store : Type 0 where
   pub ledgers : List (Option Metadata)
   pub changes : ℕ
 
+-- what is kept of ledger l
 abbrev pub kept : Store → ℕ → Option Metadata
 kept s l = numbered (s .ledgers) l None
 
+-- the metadata, blank where there is none
 abbrev pub known : Option Metadata → Metadata
 known None = no-metadata
 known (Some m) = m
@@ -39,6 +41,7 @@ known (Some m) = m
 abbrev pub metadata-of : Store → ℕ → Metadata
 metadata-of s l = known (kept s l)
 
+-- ledger l is there
 abbrev pub exists : Store → ℕ → Bool
 exists s l = is-there (kept s l)
 
@@ -46,6 +49,7 @@ exists s l = is-there (kept s l)
 abbrev pub written : Store → ℕ → Metadata → Store
 written s l m = record { ledgers = renumbered (s .ledgers) l (Some m); changes = s .changes - 1 }
 
+-- in range, there; the metadata
 abbrev pub get-answer : Store → LedgerId → Result Metadata StoreFault
 get-answer s l =
     question (is-ledger (l .0)) fault.Range (question (exists s (l .0)) fault.Existence (Ok (metadata-of s (l .0))))
@@ -57,6 +61,7 @@ create-answer s l =
     (question (not (exists s (l .0))) fault.Existence
     (question (leb 1 (s .changes)) fault.Full (Ok (version-id 1))))
 
+-- a new ledger is open
 abbrev pub create-after : Store → LedgerId → Layout → Store
 create-after s l y =
     when-ok (create-answer s l) (written s (l .0) (record { version = version-id 1; state = Open; layout = y; closing = lac-id 0 })) s
@@ -69,6 +74,7 @@ put-answer s l v =
     (question (eqb (metadata-of s (l .0) .version .0) (v .0)) fault.Version
     (question (leb 1 (s .changes)) fault.Full (Ok (version-id (suc (v .0)))))))
 
+-- a refusal alters nothing
 abbrev pub put-after : Store → LedgerId → Version → LedgerState → Layout → Lac → Store
 put-after s l v st y n =
     when-ok (put-answer s l v) (written s (l .0) (record { version = version-id (suc (v .0)); state = st; layout = y; closing = n })) s

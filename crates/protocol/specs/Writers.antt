@@ -8,7 +8,7 @@ use Rattle.std.specs.declared.option.Option.{Option}
 use Rattle.std.specs.declared.option.Option.the-variants.{Some, None}
 use Rattle.std.specs.declared.result.Result.{Result}
 use Rattle.std.specs.declared.result.Result.the-variants.{Ok, Err}
-use Rattle.ledgers.specs.Limits.{max-entries}
+use Rattle.ledgers.specs.Limits.{max-entries, max-pending}
 use Rattle.ledgers.specs.Ids.{bookie-id, entry-id, lac-id, version-id}
 use Rattle.ledgers.specs.declared.bodies.Body.{Body}
 use Rattle.ledgers.specs.declared.ids.BookieId.{BookieId}
@@ -50,24 +50,28 @@ no-writer = record { state = state.Absent; layout = no-layout; version = 0; lac 
 abbrev pub new-writer : Layout → Writer
 new-writer y = record { state = state.Writing; layout = y; version = 1; lac = 0; pending = [] }
 
+-- it has a ledger
 abbrev pub is-made : WriterState → Bool
 is-made state.Absent = false
 is-made state.Writing = true
 is-made state.Fenced = true
 is-made state.Closed = true
 
+-- a recovery took its ledger over
 abbrev pub is-shut-out : WriterState → Bool
 is-shut-out state.Absent = false
 is-shut-out state.Writing = false
 is-shut-out state.Fenced = true
 is-shut-out state.Closed = false
 
+-- it closed its ledger
 abbrev pub is-closed : WriterState → Bool
 is-closed state.Absent = false
 is-closed state.Writing = false
 is-closed state.Fenced = false
 is-closed state.Closed = true
 
+-- it appends, and hears replies
 abbrev pub is-writing : WriterState → Bool
 is-writing state.Absent = false
 is-writing state.Writing = true
@@ -93,26 +97,32 @@ adds-to y l e n p (q ∷ qs) =
     cond (marked (p .marks) q) (adds-to y l e n p qs)
     (Add l (bookie-id (bookie-at y e q)) (entry-id e) (lac-id n) (p .body) ∷ adds-to y l e n p qs)
 
+-- adds of entry e to its write set
 abbrev pub adds : Layout → LedgerId → ℕ → ℕ → PendingAdd → List Message
 adds y l e n p = adds-to y l e n p (write-set (y .sizes) e)
 
 -- append -------------------------------------------------------------------------------------------------------------
+-- the number that the next append gives
 abbrev pub next-entry : Writer → ℕ
 next-entry w = w .lac + length (w .pending)
 
--- fewer than 16 are pending, and there is a next entry
+-- there is a place for one more pending add, and there is a next entry
 abbrev pub has-room : Writer → Bool
-has-room w = ltb (length (w .pending)) 16 && ltb (next-entry w) max-entries
+has-room w = ltb (length (w .pending)) max-pending && ltb (next-entry w) max-entries
 
+-- a pending add that nobody acknowledged yet
 abbrev pub new-add : Body → PendingAdd
 new-add body = record { body = body; marks = no-marks }
 
+-- the next entry
 abbrev pub append-answer : Writer → Result EntryId ClientFault
 append-answer w = if-writing w (question (has-room w) fault.Full (Ok (entry-id (next-entry w))))
 
+-- the body is pending
 abbrev pub appended : Writer → Body → Writer
 appended w body = with-pending w (w .lac) (w .pending ++ (new-add body ∷ []))
 
+-- adds to the write set
 abbrev pub append-sends : Writer → LedgerId → Body → List Message
 append-sends w l body = adds (w .layout) l (next-entry w) (w .lac) (new-add body)
 
@@ -122,9 +132,11 @@ abbrev pub all-adds : Layout → LedgerId → ℕ → ℕ → List PendingAdd �
 all-adds y l n e [] = []
 all-adds y l n e (p ∷ ps) = adds y l e n p ++ all-adds y l n (suc e) ps
 
+-- only a writer that is writing resends
 abbrev pub resend-answer : Writer → Result (Unit {0}) ClientFault
 resend-answer w = if-writing w (Ok tt)
 
+-- what it sends
 abbrev pub resends : Writer → LedgerId → List Message
 resends w l = all-adds (w .layout) l (w .lac) (w .lac) (w .pending)
 
@@ -152,9 +164,11 @@ abbrev pub confirmed : Layout → ℕ → List PendingAdd → Front
 confirmed y e [] = record { lac = e; pending = [] }
 confirmed y e (p ∷ ps) = cond (is-acknowledged y e p) (confirmed y (suc e) ps) (record { lac = e; pending = p ∷ ps })
 
+-- with this LAC and these pending adds
 abbrev pub with-front : Writer → Front → Writer
 with-front w f = with-pending w (f .lac) (f .pending)
 
+-- bookie b acknowledged entry e
 abbrev pub acknowledged : Writer → ℕ → ℕ → Writer
 acknowledged w b e = with-front w (confirmed (w .layout) (w .lac) (marked-adds (w .layout) e b (w .lac) (w .pending)))
 
@@ -186,12 +200,14 @@ change-fits y p b = not (member b (take (y .sizes .ensemble) (last-fragment y .b
 abbrev pub new-layout : Writer → Position → BookieId → Layout
 new-layout w p b = changed-layout (w .layout) (w .lac) (p .0) (b .0)
 
+-- the bookie and the position fit, the writer is writing, no ninth fragment is needed, and the store takes it
 abbrev pub change-answer : Writer → Store → LedgerId → Position → BookieId → Result (Option EntryId) ClientFault
 change-answer w s l p b =
     question (change-fits (w .layout) (p .0) (b .0)) fault.Ensemble
     (if-writing w (question (room-for (w .layout) (w .lac)) fault.Fragments
     (by-put (entry-id (w .lac)) (put-answer s l (version-id (w .version))))))
 
+-- the store after it
 abbrev pub change-store : Writer → Store → LedgerId → Position → BookieId → Store
 change-store w s l p b = put-after s l (version-id (w .version)) Open (new-layout w p b) (lac-id 0)
 
@@ -199,6 +215,7 @@ change-store w s l p b = put-after s l (version-id (w .version)) Open (new-layou
 abbrev pub unmarked : ℕ → PendingAdd → PendingAdd
 unmarked p a = record { body = a .body; marks = set (a .marks) p false }
 
+-- the writer after it
 abbrev pub changed-writer : Writer → Position → BookieId → Writer
 changed-writer w p b =
     record {
@@ -216,17 +233,21 @@ adds-at y l n q b e (p ∷ ps) =
     cond (member q (write-set (y .sizes) e)) (Add l b (entry-id e) (lac-id n) (p .body) ∷ adds-at y l n q b (suc e) ps)
     (adds-at y l n q b (suc e) ps)
 
+-- the new bookie gets what is pending
 abbrev pub change-sends : Writer → LedgerId → Position → BookieId → List Message
 change-sends w l p b = adds-at (new-layout w p b) l (w .lac) (p .0) b (w .lac) (w .pending)
 
 -- close --------------------------------------------------------------------------------------------------------------
+-- the writer is writing, nothing is pending, and the store takes it
 abbrev pub close-answer : Writer → Store → LedgerId → Result (Option Lac) ClientFault
 close-answer w s l =
     if-writing w (question (eqb (length (w .pending)) 0) fault.Pending
     (by-put (lac-id (w .lac)) (put-answer s l (version-id (w .version)))))
 
+-- the store after it
 abbrev pub close-store : Writer → Store → LedgerId → Store
 close-store w s l = put-after s l (version-id (w .version)) Closed (w .layout) (lac-id (w .lac))
 
+-- the writer after it
 abbrev pub closed-writer : Writer → Writer
 closed-writer w = record { state = state.Closed; layout = w .layout; version = suc (w .version); lac = w .lac; pending = w .pending }
