@@ -15,7 +15,14 @@ impl Layout {
     {
         let sizes = self.sizes();
         let fragment = self.last_fragment();
-        mark_first(&fragment.bookies, &sizes, sizes.ensemble(), EntryId(0), bookie, marks);
+        mark_first(
+            &fragment.bookies,
+            &sizes,
+            sizes.ensemble(),
+            EntryId(0),
+            bookie,
+            marks,
+        );
     }
 
     // Marks the position at which a bookie stands in the write set of an entry, if it does.
@@ -24,7 +31,14 @@ impl Layout {
     {
         let sizes = self.sizes();
         let fragment = self.fragment_of(e);
-        mark_first(&fragment.bookies, &sizes, sizes.write_quorum(), e, bookie, marks);
+        mark_first(
+            &fragment.bookies,
+            &sizes,
+            sizes.write_quorum(),
+            e,
+            bookie,
+            marks,
+        );
     }
 }
 

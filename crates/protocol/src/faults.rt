@@ -1,4 +1,7 @@
 // Why a client or a step refuses. What a lower layer refuses comes through whole.
+ghost use mathlib.Core.Path.{_≡_};
+ghost use Rattle.protocol.specs.declared.faults.ClientFault.the-variants.{Store as of-store};
+ghost use Rattle.protocol.specs.declared.faults.StepFault.the-variants.{Client as of-client};
 use messages::faults::StoreFault;
 
 // Why a client refuses, in the order of its questions.
@@ -30,4 +33,20 @@ pub enum StepFault {
     // The ledger is there already, or the recoverer is at work: 5.
     Taken,
     Client(ClientFault),
+}
+
+pub impl From<StoreFault> for ClientFault as ClientFromStore {
+    ghost converts = { λ fault r. r ≡ of-store fault };
+
+    fn from(fault: StoreFault) -> ClientFault {
+        ClientFault::Store(fault)
+    }
+}
+
+pub impl From<ClientFault> for StepFault as StepFromClient {
+    ghost converts = { λ fault r. r ≡ of-client fault };
+
+    fn from(fault: ClientFault) -> StepFault {
+        StepFault::Client(fault)
+    }
 }

@@ -1,5 +1,4 @@
 -- The request of a phase, to one bookie.
-use Prim.Native.Nat.{ℕ}
 use Rattle.ledgers.specs.Ids.{entry-id}
 use Rattle.ledgers.specs.declared.ids.BookieId.{BookieId}
 use Rattle.ledgers.specs.declared.ids.RecovererId.{RecovererId}

@@ -16,7 +16,7 @@ use protocol::recoverers::Recoverer;
 use waiting::WaitingList;
 
 // Sends the requests of a recoverer's phase to the positions that have not answered.
-pub fn ask(recoverer: &Recoverer, number: RecovererId, messages: &mut WaitingList)
+pub(crate) fn ask(recoverer: &Recoverer, number: RecovererId, messages: &mut WaitingList)
     ensures { λ _. ⌜ queue (now (messages .exit)) ≡ sent (queue (now (messages .entry))) (asks (now (recoverer .entry)) number) ⌝ }
 {
     let sizes = recoverer.layout.sizes();
@@ -25,13 +25,37 @@ pub fn ask(recoverer: &Recoverer, number: RecovererId, messages: &mut WaitingLis
     let fragment = recoverer.layout.fragment_of(next);
     match &recoverer.phase {
         Phase::Fencing { marks } => {
-            ask_each(recoverer, number, &last, sizes.ensemble(), EntryId(0), marks, messages)
+            ask_each(
+                recoverer,
+                number,
+                &last,
+                sizes.ensemble(),
+                EntryId(0),
+                marks,
+                messages,
+            )
         }
         Phase::Reading { absent } => {
-            ask_each(recoverer, number, &fragment, sizes.write_quorum(), next, absent, messages)
+            ask_each(
+                recoverer,
+                number,
+                &fragment,
+                sizes.write_quorum(),
+                next,
+                absent,
+                messages,
+            )
         }
         Phase::Writing { good } => {
-            ask_each(recoverer, number, &fragment, sizes.write_quorum(), next, good, messages)
+            ask_each(
+                recoverer,
+                number,
+                &fragment,
+                sizes.write_quorum(),
+                next,
+                good,
+                messages,
+            )
         }
         _ => {}
     }

@@ -11,6 +11,6 @@ use Rattle.recoverers.proofs.asking.ask_each.Given as given
 abbrev pub Inv-loop-i : given.InvT-loop-i
 Inv-loop-i l =
     sent (queue (l .messages))
-      (asks-to (l .marks) (l .fragment .bookies) (request-in (l .recoverer .phase) (l .recoverer) (l .number)) (positions (l .width - l .i) (l .e .0 + l .i) (l .recoverer .layout .sizes .ensemble)))
+    (asks-to (l .marks) (l .fragment .bookies) (request-in (l .recoverer .phase) (l .recoverer) (l .number)) (positions (l .width - l .i) (l .e .0 + l .i) (l .recoverer .layout .sizes .ensemble)))
     ≡ sent (queue (l .entry .messages))
-      (asks-to (l .marks) (l .fragment .bookies) (request-in (l .recoverer .phase) (l .recoverer) (l .number)) (positions (l .width) (l .e .0) (l .recoverer .layout .sizes .ensemble)))
+    (asks-to (l .marks) (l .fragment .bookies) (request-in (l .recoverer .phase) (l .recoverer) (l .number)) (positions (l .width) (l .e .0) (l .recoverer .layout .sizes .ensemble)))
