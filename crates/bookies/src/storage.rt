@@ -1,8 +1,9 @@
-// What a make of bookie says of where it keeps things. All of it is total: no number is asked that it has to refuse.
+// What a make of bookie says of where it keeps things. It answers for any number, also for a
+// ledger that there cannot be, and has nothing to refuse but an entry for which there is no space.
 ghost use mathlib.Core.Path.{_≡_};
-ghost use mathlib.Core.Bool.{cond};
+ghost use mathlib.Core.Bool.{cond, true};
 ghost use lib.Dec.{leb};
-ghost use Rattle.protocol.specs.Bookies.{Bookie, find, is-fenced, highest-lac, holding, fencing};
+ghost use Rattle.protocol.specs.Bookies.{Bookie, add-fits, find, is-fenced, highest-lac, holding, fencing};
 use ledgers::ids::EntryId;
 use ledgers::ids::Lac;
 use ledgers::ids::LedgerId;
@@ -25,8 +26,9 @@ pub trait Storage {
     fn highest_lac(&self, ledger: LedgerId) -> Lac
         ensures { λ r. ⌜ r .0 ≡ highest-lac (means (now (self .entry)) .entries) (ledger .0) ⌝ };
 
-    // Holds one entry more, and tells whether there was space for it.
+    // Holds one entry more that there can be, and tells whether there was space for it.
     fn keep(&mut self, held: Held) -> bool
+        requires { ⌜ add-fits (held .ledger) (held .entry) (held .lac) ≡ true ⌝ }
         ensures answer { λ r. ⌜ r ≡ leb 1 (means (now (self .entry)) .space) ⌝ }
         ensures after { λ r. ⌜ means (now (self .exit)) ≡ cond r (holding (means (now (self .entry))) held) (means (now (self .entry))) ⌝ };
 

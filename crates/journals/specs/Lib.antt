@@ -1,0 +1,5 @@
+pub mod Numbers
+pub mod Fences
+pub mod Records
+pub mod Files
+pub mod Journal
