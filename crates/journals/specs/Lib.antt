@@ -3,3 +3,4 @@ pub mod Fences
 pub mod Records
 pub mod Files
 pub mod Journal
+pub mod SetUp

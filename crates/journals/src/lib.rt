@@ -8,3 +8,4 @@ pub mod bytes;
 pub mod fences;
 pub mod files;
 pub mod journal;
+pub mod set_up;

@@ -42,6 +42,14 @@ impl<'a> JournalBookie<'a> {
         JournalBookie { journal, up: true }
     }
 
+    // A new bookie in a file of 16,384 bytes, whose type leaves nothing to refuse.
+    pub fn standard(file: &'a mut [u8; 16384]) -> Self
+        ensures means { λ r. ⌜ in-journal r ≡ new-bookie (space-behind 16384 []) ⌝ }
+        ensures bytes { λ r. ⌜ file-of r ≡ laid-out 16384 [] (replicate 16 false) ⌝ }
+    {
+        JournalBookie::new(&mut file[..])
+    }
+
     // The bytes of its file: those laid out for its entries and fences, which reading back gives again.
     pub fn bytes(&self) -> &[u8]
         ensures laid { λ r. ⌜ now r ≡ laid-out (length (now r)) (in-journal (now (self .entry)) .entries) (in-journal (now (self .entry)) .fences) ⌝ }
