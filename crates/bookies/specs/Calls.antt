@@ -30,8 +30,8 @@ add-made-after None b l e n recovery = b
 add-made-after (Some body) b l e n recovery = add-after b l e n body recovery
 
 -- an add of any bytes
-abbrev pub add-bytes-answer : Bookie → LedgerId → EntryId → Lac → List ℕ → Bool → Result (Unit {0}) BookieFault
+unfoldable pub add-bytes-answer : Bookie → LedgerId → EntryId → Lac → List ℕ → Bool → Result (Unit {0}) BookieFault
 add-bytes-answer b l e n bytes recovery = add-made-answer (made-body bytes) b l e n recovery
 
-abbrev pub add-bytes-after : Bookie → LedgerId → EntryId → Lac → List ℕ → Bool → Bookie
+unfoldable pub add-bytes-after : Bookie → LedgerId → EntryId → Lac → List ℕ → Bool → Bookie
 add-bytes-after b l e n bytes recovery = add-made-after (made-body bytes) b l e n recovery

@@ -2,10 +2,10 @@
 ghost use mathlib.Core.Path.{_≡_};
 ghost use mathlib.Core.Bool.{_&&_};
 ghost use Rattle.std.specs.shelf.Text.{sameBytes};
-ghost use Rattle.ledgers.specs.Bodies.{content};
+ghost use Rattle.ledgers.specs.Bodies.{content, made-body};
 ghost use Rattle.ledgers.specs.Limits.{is-ledger, is-entry};
 ghost use Rattle.protocol.specs.Bookies.{add-fits, fence-answer, fence-after, read-answer};
-ghost use Rattle.bookies.specs.Calls.{add-bytes-answer, add-bytes-after};
+ghost use Rattle.bookies.specs.Calls.{add-made-answer, add-made-after};
 use crate::storage::Storage;
 use ledgers::bodies::Body;
 use ledgers::ids::EntryId;
@@ -48,8 +48,8 @@ pub fn add<S: Storage>(
     body: &[u8],
     recovery: bool,
 ) -> Result<(), BookieFault>
-    ensures answer { λ r. ⌜ r ≡ add-bytes-answer (means (now (storage .entry))) ledger entry lac (now (body .entry)) recovery ⌝ }
-    ensures after { λ _. ⌜ means (now (storage .exit)) ≡ add-bytes-after (means (now (storage .entry))) ledger entry lac (now (body .entry)) recovery ⌝ }
+    ensures answer { λ r. ⌜ r ≡ add-made-answer (made-body (now (body .entry))) (means (now (storage .entry))) ledger entry lac recovery ⌝ }
+    ensures after { λ _. ⌜ means (now (storage .exit)) ≡ add-made-after (made-body (now (body .entry))) (means (now (storage .entry))) ledger entry lac recovery ⌝ }
 {
     let Some(body) = Body::new(body) else {
         return Err(BookieFault::Range);

@@ -31,9 +31,9 @@ pub image-is : (h : Held) {ls bs es cs body copied : List ℕ}
     → copied ≡ content (h .body)
     → body ≡ content (h .body)
     → (getD ls 0 0 ∷ getD ls 1 0 ∷ getD bs 0 0 ∷ getD bs 1 0
-      ∷ getD es 0 0 ∷ getD es 1 0 ∷ getD es 2 0 ∷ getD es 3 0
-      ∷ getD cs 0 0 ∷ getD cs 1 0 ∷ getD cs 2 0 ∷ getD cs 3 0
-      ∷ (copied ++ drop (12 + length body - 12) (replicate 40 0)))
+    ∷ getD es 0 0 ∷ getD es 1 0 ∷ getD es 2 0 ∷ getD es 3 0
+    ∷ getD cs 0 0 ∷ getD cs 1 0 ∷ getD cs 2 0 ∷ getD cs 3 0
+    ∷ (copied ++ drop (12 + length body - 12) (replicate 40 0)))
     ≡ record-image h
 unfolding record-image
 image-is h {ls} {bs} {es} {cs} {body} {copied} l b e c p q =
@@ -98,14 +98,14 @@ image-says h fit =
     let n : min 40 (le2 (record-image h) 2) ≡ length bytes = omega (arith, short, whole2 (length bytes) (omega (arith, short))) in
     let t : take (length bytes) (bytes ++ replicate (40 - length bytes) 0) ≡ bytes = take-at bytes _ _ refl in
     let b : body-of (take (min 40 (le2 (record-image h) 2)) (drop 12 (record-image h))) ≡ h .body =
-      ap (λ k. body-of (take k (bytes ++ replicate (40 - length bytes) 0))) n ∙ ap body-of t ∙ body-back (h .body) in
+    ap (λ k. body-of (take k (bytes ++ replicate (40 - length bytes) 0))) n ∙ ap body-of t ∙ body-back (h .body) in
     λ i.
-      record {
-        ledger = ledger-id (whole2 (h .ledger .0) (s .ledger) i);
-        entry = entry-id (whole4 (h .entry .0) (s .entry) i);
-        lac = lac-id (whole4 (h .lac .0) (s .lac) i);
-        body = b i
-      }
+    record {
+      ledger = ledger-id (whole2 (h .ledger .0) (s .ledger) i);
+      entry = entry-id (whole4 (h .entry .0) (s .entry) i);
+      lac = lac-id (whole4 (h .lac .0) (s .lac) i);
+      body = b i;
+    }
 
 pub length-images : (es : List Held) → length (images es) ≡ 52 * length es
 length-images [] = refl

@@ -61,7 +61,7 @@ fit-from n es fs fit =
       most = leb-true n 65536 (size .1);
       room = leb-true (end-of es) n (q .0);
       all-flags = eqb-true (length fs) 16 (r .0);
-      sound = r .1
+      sound = r .1;
     }
 
 -- what a file says, number by number
@@ -90,18 +90,22 @@ module _ (n : ℕ) (es : List Held) (fs : List Bool) (fit : Fit n es fs) where
       let r = header-rest (length es) (end-of es) (word fs) n rest in
       record {
         long =
-          omega
-          (arith, header-long (length es) (end-of es) (word fs) n rest, length-append (images es) zeros, length-images es,
-            length-replicate {A = ℕ} (n - end-of es) 0);
+            omega (
+              arith,
+              header-long (length es) (end-of es) (word fs) n rest,
+              length-append (images es) zeros,
+              length-images es,
+              length-replicate {A = ℕ} (n - end-of es) 0,
+            );
         count = c;
         end = e;
         bits = w;
         rest = r;
         entries =
-          ap (λ k. records-of k (drop 32 (laid-out n es fs))) c ∙ ap (records-of (length es)) r
-          ∙ images-say es zeros (fit .sound);
+            ap (λ k. records-of k (drop 32 (laid-out n es fs))) c ∙ ap (records-of (length es)) r
+            ∙ images-say es zeros (fit .sound);
         fences = ap flags w ∙ flags-word fs (fit .all-flags);
-        space = ap (λ k. (le4 (laid-out n es fs) 12 - k) / 52) e ∙ ap (λ k. (k - end-of es) / 52) s
+        space = ap (λ k. (le4 (laid-out n es fs) 12 - k) / 52) e ∙ ap (λ k. (k - end-of es) / 52) s;
       }
 
   -- the same of a file that is known to be so laid out
@@ -127,8 +131,8 @@ stands n es fs f fit is =
       room = omega (arith, long, count, fit .room);
       sound = ap all-fit (s .entries) ∙ fit .sound;
       laid =
-        is ∙ ap (λ m. laid-out m es fs) (sym long) ∙ ap (λ xs. laid-out (length f) xs fs) (sym (s .entries))
-        ∙ ap (laid-out (length f) (entries-in f)) (sym (s .fences))
+          is ∙ ap (λ m. laid-out m es fs) (sym long) ∙ ap (λ xs. laid-out (length f) xs fs) (sym (s .entries))
+          ∙ ap (laid-out (length f) (entries-in f)) (sym (s .fences));
     }
 
 -- both of a file that was written anew

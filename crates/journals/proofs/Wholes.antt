@@ -20,4 +20,4 @@ whole4 x h =
     let t : x / 256 / 256 / 256 % 256 ≡ x / 256 / 256 / 256 = omega arith in
     simp (a, b, t)
     (join x (x / 256) (x / 256 / 256) (x / 256 / 256 / 256) (x % 256) (x / 256 % 256) (x / 256 / 256 % 256)
-      (omega arith) (omega arith) (omega arith))
+    (omega arith) (omega arith) (omega arith))

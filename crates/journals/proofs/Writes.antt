@@ -41,12 +41,12 @@ module _ (f : List ℕ) (n : ℕ) (es : List Held) (long : length f ≡ n) (behi
       let count = length-images es in
       let front : 32 ≤ length (take (end-of es) f) = omega (arith, length-take-le (end-of es) f (omega arith)) in
       let kept : drop 32 (take (end-of es) f) ≡ images es =
-        drop-take 32 (52 * length es) f ∙ ap (take (52 * length es)) behind ∙ take-at (images es) zeros (52 * length es) count in
+      drop-take 32 (52 * length es) f ∙ ap (take (52 * length es)) behind ∙ take-at (images es) zeros (52 * length es) count in
       let far : end-of es + 52 ≡ 32 + (52 * length es + 52) = omega arith in
       let left : drop (end-of es + 52) f ≡ replicate (n - end-of es - 52) 0 =
-        ap (λ k. drop k f) far ∙ sym (drop-drop (52 * length es + 52) 32 f) ∙ ap (drop (52 * length es + 52)) behind
-        ∙ sym (drop-drop 52 (52 * length es) (images es ++ zeros))
-        ∙ ap (drop 52) (drop-at (images es) zeros (52 * length es) count) ∙ drop-replicate {X = ℕ} 52 (n - end-of es) 0 in
+      ap (λ k. drop k f) far ∙ sym (drop-drop (52 * length es + 52) 32 f) ∙ ap (drop (52 * length es + 52)) behind
+      ∙ sym (drop-drop 52 (52 * length es) (images es ++ zeros))
+      ∙ ap (drop 52) (drop-at (images es) zeros (52 * length es) count) ∙ drop-replicate {X = ℕ} 52 (n - end-of es) 0 in
       let less : n - end-of es - 52 ≡ n - end-of (es ++ (h ∷ [])) = omega (arith, length-push es h) in
       drop-append-le 32 (take (end-of es) f) z front ∙ ap (λ x. x ++ z) kept
       ∙ ap (λ x. images es ++ (record-image h ++ x)) (left ∙ ap (λ k. replicate k 0) less)
@@ -60,8 +60,8 @@ module _ (f : List ℕ) (n : ℕ) (es : List Held) (long : length f ≡ n) (behi
   entry-written fs h k at c w room here put ic iw =
       put
       ∙ header-laid n (es ++ (h ∷ [])) fs (c + 1) (at + 52) w (length f) _ (omega (arith, length-push es h))
-        (omega (arith, length-push es h)) iw long
-        (ap (λ x. drop 32 (take x f ++ (record-image h ++ drop (x + 52) f))) here ∙ record-rest h room)
+      (omega (arith, length-push es h)) iw long
+      (ap (λ x. drop 32 (take x f ++ (record-image h ++ drop (x + 52) f))) here ∙ record-rest h room)
 
   -- a fence writes the header alone
   fence-written : (fs : List Bool) (k : List ℕ) (c e w : ℕ) → k ≡ header-image c e w (length f) ++ drop 32 f
@@ -87,10 +87,10 @@ module _ (f : List ℕ) (s : Stands f) where
         most = known .most;
         room = omega arith;
         all-flags = known .all-flags;
-        sound = fit-push (entries-in f) h (known .sound) fit
+        sound = fit-push (entries-in f) h (known .sound) fit;
       })
       (entry-written f (length f) (entries-in f) (omega arith) (o .rest) (fences-in f) h k at c w room (ie ∙ end) put (ic ∙ o .count)
-        (iw ∙ o .bits))
+      (iw ∙ o .bits))
 
   pub fence-kept : (k : List ℕ) (l c e w : ℕ) → k ≡ header-image c e w (length f) ++ drop 32 f
       → c ≡ le4 f 0 → e ≡ le4 f 4 → w ≡ word (renumbered (fences-in f) l true)
@@ -105,7 +105,7 @@ module _ (f : List ℕ) (s : Stands f) where
         most = known .most;
         room = known .room;
         all-flags = length-set flags (row flags l) true ∙ known .all-flags;
-        sound = known .sound
+        sound = known .sound;
       })
       (fence-written f (length f) (entries-in f) (omega arith) (o .rest) (renumbered flags l true) k c e w headed (ic ∙ o .count) (ie ∙ o .end) iw)
 
@@ -120,7 +120,7 @@ new-written f g k size zeros headed =
     let long : length g ≡ length f = ap length zeros ∙ length-replicate {A = ℕ} (length f) 0 in
     let none : List Bool = replicate 16 false in
     let is : k ≡ laid-out (length f) [] none =
-      headed
-      ∙ header-laid (length f) [] none 0 32 0 (length g) (drop 32 g) refl refl refl long
-        (ap (drop 32) zeros ∙ drop-replicate {X = ℕ} 32 (length f) 0) in
+    headed
+    ∙ header-laid (length f) [] none 0 32 0 (length g) (drop 32 g) refl refl refl long
+    (ap (drop 32) zeros ∙ drop-replicate {X = ℕ} 32 (length f) 0) in
     (written (length f) [] none k (record { least = least; most = most; room = omega arith; all-flags = refl; sound = refl }) is, is)

@@ -18,7 +18,7 @@ in-journal s =
       up = s .up;
       entries = entries-in (file-of s);
       fences = fences-in (file-of s);
-      space = space-in (file-of s)
+      space = space-in (file-of s);
     }
 
 -- what is laid out is read back: entries, fences and space

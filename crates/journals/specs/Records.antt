@@ -12,8 +12,8 @@ unfoldable pub record-image : Held → List ℕ
 record-image h =
     bytes2 (h .ledger .0)
     ++ (bytes2 (length (content (h .body)))
-      ++ (bytes4 (h .entry .0)
-        ++ (bytes4 (h .lac .0) ++ (content (h .body) ++ replicate (40 - length (content (h .body))) 0))))
+    ++ (bytes4 (h .entry .0)
+    ++ (bytes4 (h .lac .0) ++ (content (h .body) ++ replicate (40 - length (content (h .body))) 0))))
 
 abbrev pub images : List Held → List ℕ
 images [] = []
@@ -26,7 +26,7 @@ record-of s =
       ledger = ledger-id (le2 s 0);
       entry = entry-id (le4 s 4);
       lac = lac-id (le4 s 8);
-      body = body-of (take (min 40 (le2 s 2)) (drop 12 s))
+      body = body-of (take (min 40 (le2 s 2)) (drop 12 s));
     }
 
 -- the entries in so many records

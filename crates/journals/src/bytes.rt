@@ -13,6 +13,7 @@ use ledgers::ids::LedgerId;
 use messages::entries::Held;
 
 pub const HEADER_BYTES: usize = 32;
+
 pub const RECORD_BYTES: usize = 52;
 
 // The number in two bytes.
@@ -40,8 +41,38 @@ pub(crate) fn header(count: u32, end: u32, fences: u32, size: u32) -> [u8; 32]
     let f = fences.to_le_bytes();
     let s = size.to_le_bytes();
     [
-        c[0], c[1], c[2], c[3], e[0], e[1], e[2], e[3], f[0], f[1], f[2], f[3], s[0], s[1], s[2], s[3], 0, 0, 0, 0, 0, 0, 0, 0, 0,
-        0, 0, 0, 0, 0, 0, 0,
+        c[0],
+        c[1],
+        c[2],
+        c[3],
+        e[0],
+        e[1],
+        e[2],
+        e[3],
+        f[0],
+        f[1],
+        f[2],
+        f[3],
+        s[0],
+        s[1],
+        s[2],
+        s[3],
+        0,
+        0,
+        0,
+        0,
+        0,
+        0,
+        0,
+        0,
+        0,
+        0,
+        0,
+        0,
+        0,
+        0,
+        0,
+        0,
     ]
 }
 
@@ -56,8 +87,58 @@ pub(crate) fn image(held: &Held) -> [u8; 52]
     let e = held.entry.0.to_le_bytes();
     let c = held.lac.0.to_le_bytes();
     let mut out = [
-        l[0], l[1], b[0], b[1], e[0], e[1], e[2], e[3], c[0], c[1], c[2], c[3], 0, 0, 0, 0, 0, 0, 0, 0, 0, 0, 0, 0, 0, 0, 0, 0, 0,
-        0, 0, 0, 0, 0, 0, 0, 0, 0, 0, 0, 0, 0, 0, 0, 0, 0, 0, 0, 0, 0, 0, 0,
+        l[0],
+        l[1],
+        b[0],
+        b[1],
+        e[0],
+        e[1],
+        e[2],
+        e[3],
+        c[0],
+        c[1],
+        c[2],
+        c[3],
+        0,
+        0,
+        0,
+        0,
+        0,
+        0,
+        0,
+        0,
+        0,
+        0,
+        0,
+        0,
+        0,
+        0,
+        0,
+        0,
+        0,
+        0,
+        0,
+        0,
+        0,
+        0,
+        0,
+        0,
+        0,
+        0,
+        0,
+        0,
+        0,
+        0,
+        0,
+        0,
+        0,
+        0,
+        0,
+        0,
+        0,
+        0,
+        0,
+        0,
     ];
     out[12..12 + n].copy_from_slice(body);
     out

@@ -7,11 +7,11 @@ ghost use Rattle.journals.specs.Numbers.{le4};
 ghost use Rattle.journals.specs.Records.{record-image, records-of};
 ghost use Rattle.journals.specs.Files.{header-image};
 ghost use Rattle.protocol.specs.Bookies.{find, highest-lac};
+use crate::bytes::HEADER_BYTES;
+use crate::bytes::RECORD_BYTES;
 use crate::bytes::get4;
 use crate::bytes::header;
-use crate::bytes::HEADER_BYTES;
 use crate::bytes::image;
-use crate::bytes::RECORD_BYTES;
 use crate::bytes::record_in;
 use ledgers::ids::EntryId;
 use ledgers::ids::Lac;
@@ -38,7 +38,8 @@ impl JournalFile<'_> {
         ensures { λ _. ⌜ now (now (self .exit) .file) ≡ header-image count end fences (length (now (now (self .entry) .file))) ++ drop 32 (now (now (self .entry) .file)) ⌝ }
     {
         let size = self.file.len() as u32;
-        self.file[0..HEADER_BYTES].copy_from_slice(&header(count, end, fences, size));
+        self.file[0..HEADER_BYTES]
+            .copy_from_slice(&header(count, end, fences, size));
     }
 
     pub(crate) fn write_record(&mut self, at: usize, held: &Held)
@@ -46,7 +47,8 @@ impl JournalFile<'_> {
         ensures long { λ _. ⌜ length (now (now (self .exit) .file)) ≡ length (now (now (self .entry) .file)) ⌝ }
         ensures after { λ _. ⌜ now (now (self .exit) .file) ≡ take at (now (now (self .entry) .file)) ++ (record-image (now (held .entry)) ++ drop (at + 52) (now (now (self .entry) .file))) ⌝ }
     {
-        self.file[at..at + RECORD_BYTES].copy_from_slice(&image(held));
+        self.file[at..at + RECORD_BYTES]
+            .copy_from_slice(&image(held));
     }
 
     // Writes one record more at the free end, and then the header.
@@ -67,7 +69,12 @@ impl JournalFile<'_> {
 }
 
 // The copy of an entry, among so many records.
-pub(crate) fn find_in(records: &[u8], count: usize, ledger: LedgerId, number: EntryId) -> Option<Held>
+pub(crate) fn find_in(
+    records: &[u8],
+    count: usize,
+    ledger: LedgerId,
+    number: EntryId,
+) -> Option<Held>
     requires { ⌜ 52 * count ≤ length (now records) ⌝ }
     ensures { λ r. ⌜ r ≡ find (records-of count (now (records .entry))) (ledger .0) (number .0) ⌝ }
 {

@@ -10,6 +10,7 @@ use crate::journal::JournalBookie;
 
 // The sizes that a journal can have; the lesser has room for one record.
 pub const MIN_JOURNAL_BYTES: usize = 84;
+
 pub const MAX_JOURNAL_BYTES: usize = 65536;
 
 // Why nothing is set up: 15.
@@ -42,7 +43,10 @@ pub trait JournalUser {
 
 // Sets a new journal bookie up over the memory and lets the user work with it; memory of the wrong size is refused and
 // stays as it is.
-pub fn with_journal<U: JournalUser + Drop>(file: &mut [u8], user: U) -> Result<U::Answer, SetUpFault>
+pub fn with_journal<U: JournalUser + Drop>(
+    file: &mut [u8],
+    user: U,
+) -> Result<U::Answer, SetUpFault>
     ensures answer { λ r. ⌜ Set-up (promises user) (length (now (file .entry))) r ⌝ }
     ensures refused { λ r. ⌜ (size-fits (length (now (file .entry))) ≡ false → now (file .exit) ≡ now (file .entry)) ⌝ }
 {

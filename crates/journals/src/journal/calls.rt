@@ -8,9 +8,6 @@ ghost use Rattle.protocol.specs.Bookies.{add-fits, holding, new-bookie};
 ghost use Rattle.journals.specs.Files.{laid-out, size-fits, space-behind};
 ghost use Rattle.journals.specs.Journal.{file-of, in-journal, Reads-back};
 use super::JournalBookie;
-use bookies::interface::Bookie;
-use bookies::questions;
-use bookies::storage::Storage;
 use crate::bytes::HEADER_BYTES;
 use crate::bytes::RECORD_BYTES;
 use crate::fences::has_fence;
@@ -18,6 +15,9 @@ use crate::fences::with_fence;
 use crate::files::JournalFile;
 use crate::files::find_in;
 use crate::files::highest_in;
+use bookies::interface::Bookie;
+use bookies::questions;
+use bookies::storage::Storage;
 use ledgers::ids::EntryId;
 use ledgers::ids::Lac;
 use ledgers::ids::LedgerId;
@@ -26,7 +26,9 @@ use messages::faults::BookieFault;
 
 // Where the header has its numbers.
 const COUNT_AT: usize = 0;
+
 const END_AT: usize = 4;
+
 const FENCES_AT: usize = 8;
 
 impl<'a> JournalBookie<'a> {
@@ -117,11 +119,21 @@ pub impl<'a> Storage for JournalBookie<'a> as JournalStorage {
 
 pub impl<'a> Bookie for JournalBookie<'a> as JournalBookieBookie {
     ghost entries = { λ s. in-journal s .entries };
+
     ghost fences = { λ s. in-journal s .fences };
+
     ghost space = { λ s. in-journal s .space };
+
     ghost up = { λ s. in-journal s .up };
 
-    fn add(&mut self, ledger: LedgerId, entry: EntryId, lac: Lac, body: &[u8], recovery: bool) -> Result<(), BookieFault> {
+    fn add(
+        &mut self,
+        ledger: LedgerId,
+        entry: EntryId,
+        lac: Lac,
+        body: &[u8],
+        recovery: bool,
+    ) -> Result<(), BookieFault> {
         questions::add(self, ledger, entry, lac, body, recovery)
     }
 

@@ -13,5 +13,5 @@ returns g c =
     let new = c .new-bookie .ensures .means in
     record {
       answer = (size, subst (λ b. g .U·JournalUser .promises (c .args .user) b (c .work .result)) new (c .work .ensures));
-      refused = λ bad. absurd (both-ways (size-fits n) bad size)
+      refused = λ bad. absurd (both-ways (size-fits n) bad size);
     }

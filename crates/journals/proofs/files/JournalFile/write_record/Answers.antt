@@ -8,5 +8,5 @@ returns c =
     record {
       long = search needs;
       after =
-        put-is (c .args .self .now .file .now) (c .args .at) _ _ (c .copy-from-slice .ensures .after ∙ c .image .ensures)
+          put-is (c .args .self .now .file .now) (c .args .at) _ _ (c .copy-from-slice .ensures .after ∙ c .image .ensures);
     }
