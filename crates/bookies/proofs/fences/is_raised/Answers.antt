@@ -1,0 +1,10 @@
+use mathlib.Core.Path.{sym}
+use mathlib.Core.Bool.{false}
+use Rattle.std.proofs.shelf.Lists.{getD-past}
+use Rattle.bookies.proofs.Past.{row-past}
+use Rattle.bookies.proofs.fences.is_raised.Needs as need
+
+pub returns-then-ledger-lt1 : need.returns-then-ledger-lt1
+returns-then-ledger-lt1 c =
+    let flags = c .args .flags .now in
+    sym (getD-past flags _ false (row-past flags (c .args .ledger .0) (rw (c .told-flags) (c .then-ledger-lt1 .either))))
