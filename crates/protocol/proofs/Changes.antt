@@ -1,5 +1,5 @@
 -- One lemma for each kind of change of a cluster: the world after it is later, and the invariant is kept.
-use mathlib.Core.Path.{_≡_, refl, sym, _∙_, ap, subst}
+use mathlib.Core.Path.{_≡_, refl, sym, _∙_, subst}
 use mathlib.Core.Bool.{Bool, true}
 use mathlib.Core.List.{List}
 use mathlib.Core.Logic.{inl, inr}
@@ -7,7 +7,6 @@ use Prim.Native.Nat.{ℕ, _≤_}
 use native.Mathlib.Omega.{arith}
 use lib.ListN.{length, length-set}
 use Rattle.std.specs.shelf.Lists.{All}
-use Rattle.std.proofs.shelf.Tests.{true≢false}
 use Rattle.std.specs.declared.option.Option.the-variants.{Some, None}
 use Rattle.ledgers.specs.Tables.{row}
 use Rattle.ledgers.specs.declared.bodies.Body.{Body}
@@ -18,7 +17,7 @@ use Rattle.messages.specs.declared.metadata.Metadata.{Metadata}
 use Rattle.protocol.specs.Bookies.{Bookie, no-bookie, holds, is-fenced}
 use Rattle.protocol.specs.Stores.{known, metadata-of, written}
 use Rattle.protocol.specs.Writers.{Writer, no-writer}
-use Rattle.protocol.specs.Recoverers.{no-recoverer, is-open}
+use Rattle.protocol.specs.Recoverers.{no-recoverer}
 use Rattle.protocol.specs.Clusters.{Cluster, bookie-of, writer-of, ledger-of, with-bookie, with-store, with-writer, with-recoverer, send}
 use Rattle.protocol.specs.declared.recoverers.Recoverer.{Recoverer}
 use Rattle.protocol.proofs.Lists.{at-set, set-rel, HasRow, at-number, at-number-in, number-rel, all-sent}
@@ -189,8 +188,8 @@ succeeds-same m = record { stays = λ h. h; under = λ v h. h; closed = λ h. (h
 
 -- open is neither in recovery nor closed
 pub open-shut : (m : Metadata) → m .state ≡ Open → Shut m → ⊥
-open-shut m o (inl k) = true≢false (ap is-open (sym o ∙ k))
-open-shut m o (inr k) = true≢false (ap is-open (sym o ∙ k))
+open-shut m o (inl k) = let z : _≡_ {A = ℕ} 0 1 = cc in let v : ⊥ = omega arith in absurd v
+open-shut m o (inr k) = let z : _≡_ {A = ℕ} 0 1 = cc in let v : ⊥ = omega arith in absurd v
 
 -- anything may follow an open ledger's metadata
 pub open-succeeds : (m m′ : Metadata) → m .state ≡ Open → Succeeds m m′

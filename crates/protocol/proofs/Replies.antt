@@ -31,7 +31,7 @@ use Rattle.messages.specs.declared.metadata.LedgerState.{LedgerState}
 use Rattle.messages.specs.declared.metadata.LedgerState.the-variants.{Open, InRecovery, Closed}
 use Rattle.messages.specs.declared.metadata.Metadata.{Metadata}
 use Rattle.protocol.specs.Writers.{Writer, is-made, is-shut-out, is-closed, is-writing, fenced-writer, marked-add, marked-adds, is-acknowledged, Front, confirmed, acknowledged, replied, reply-after}
-use Rattle.protocol.specs.Recoverers.{at-work, in-phase, read-on, write-back, higher, next, fence-marks, entry-marks, hits, heard-fenced, heard-absent, heard-written, at-hand, while-fencing, while-reading, while-writing, heard-in, heard, asks-to, asks-in, asks, phase-number, heard-sends}
+use Rattle.protocol.specs.Recoverers.{at-work, in-phase, read-on, write-back, higher, next, entry-marks, hits, fenced-on, heard-fenced, absent-on, heard-absent, written-on, heard-written, at-hand, while-fencing, while-reading, while-writing, heard-in, heard, asks-to, asks-in, asks, phase-number, heard-sends}
 use Rattle.protocol.specs.Clusters.{Cluster, writer-of, recoverer-of, ledger-of, with-recoverer}
 use Rattle.protocol.specs.Steps.{to-writer, to-recoverer}
 use Rattle.protocol.specs.declared.writers.WriterState.{WriterState}
@@ -215,67 +215,69 @@ module _ (x : World) (R : Recoverer) (w : WorkOk x R) where
       cond-both (leb max-entries n) Ended (Reading no-marks) (λ ph. WorkOk x (in-phase R n ph))
       (λ q. work-in n Ended h (inl (leb-true max-entries n q))) (λ _. work-in n (Reading no-marks) h (λ q m. absurd (none-marked q m)))
 
-  -- a fence answer
+  -- fencing goes on, or the next entry is read
+  fenced-on-work : (m : List Bool) (n : ℕ) → Copied x (R .ledger .0) n (R .layout) → WorkOk x (fenced-on R m n)
+  fenced-on-work m n copied =
+      cond-both (covers (R .layout .sizes) (marked m)) (read-on n) (Fencing m) (λ ph. WorkOk x (in-phase R n ph)) (λ _. work-on n copied)
+      (λ _. work-in n (Fencing m) copied tt)
+
+  -- a fence answer: whoever it came from, it tells a LAC that the writer has had
   fenced-work : {x₀ : World} {rs : ℕ → Recoverer} {ms : List Message} → Inv x₀ x rs ms → (m : List Bool) (b : BookieId) (n : Lac)
       → n .0 ≤ x .writer (R .ledger .0) .lac → WorkOk x (heard-fenced R m b n)
   fenced-work i m b n k =
-      cond-both (covers (R .layout .sizes) (marked (fence-marks R m (b .0)))) (read-on (higher (R .settled .0) (n .0))) (Fencing (fence-marks R m (b .0)))
-      (λ ph. WorkOk x (in-phase R (higher (R .settled .0) (n .0)) ph))
-      (λ _. work-on (higher (R .settled .0) (n .0)) copied) (λ _. work-in (higher (R .settled .0) (n .0)) (Fencing (fence-marks R m (b .0))) copied tt)
-    where
-      copied : Copied x (R .ledger .0) (higher (R .settled .0) (n .0)) (R .layout)
-      copied =
-          cond-both (ltb (R .settled .0) (n .0)) (n .0) (R .settled .0) (λ v. Copied x (R .ledger .0) v (R .layout))
-          (λ _ e j. rw (w .same) (lac-copied i (R .ledger .0) e (omega arith))) (λ _. w .below)
+      fenced-on-work _ (higher (R .settled .0) (n .0))
+      (cond-both (ltb (R .settled .0) (n .0)) (n .0) (R .settled .0) (λ v. Copied x (R .ledger .0) v (R .layout))
+      (λ _ e j. rw (w .same) (lac-copied i (R .ledger .0) e (omega arith))) (λ _. w .below))
 
   -- a body was found
   found-work : (n : Lac) (body : Body) → Sent x (R .ledger .0) (R .settled .0) (n .0) body → WorkOk x (write-back R n body)
   found-work n body g = record { same = w .same; under = w .under; below = w .below; phase = (g, λ q m. absurd (none-marked q m)) }
 
+  -- reading goes on, or a blocking number of barred positions ends it
+  absent-on-work : (m : List Bool) → PhaseOk x R (R .ledger .0) (R .layout) (Reading m) → WorkOk x (absent-on R m)
+  absent-on-work m marks =
+      cond-both (leb (blocking (R .layout .sizes)) (hits R m)) Ended (Reading m) (λ p. WorkOk x (in-phase R (R .settled .0) p))
+      (λ q. work-in (R .settled .0) Ended (w .below)
+      (inr (let u = leb-true (blocking (R .layout .sizes)) (hits R m) q in
+      let v = marks-count (barred x (R .ledger .0) (R .settled .0)) (R .layout) (R .settled .0) m marks in omega arith)))
+      (λ _. work-in (R .settled .0) (Reading m) (w .below) marks)
+
   -- the entry is absent there
   absent-work : (m : List Bool) (b : BookieId) → R .phase ≡ Reading m → barred x (R .ledger .0) (R .settled .0) (b .0) ≡ true → WorkOk x (heard-absent R m b)
   absent-work m b ph g =
-      cond-both (leb (blocking (R .layout .sizes)) (hits R (entry-marks R m (b .0)))) Ended (Reading (entry-marks R m (b .0))) (λ p. WorkOk x (in-phase R (R .settled .0) p))
-      (λ q. work-in (R .settled .0) Ended (w .below)
-      (inr (let u = leb-true (blocking (R .layout .sizes)) (hits R (entry-marks R m (b .0))) q in
-      let v = marks-count (barred x (R .ledger .0) (R .settled .0)) (R .layout) (R .settled .0) (entry-marks R m (b .0)) marks in omega arith)))
-      (λ _. work-in (R .settled .0) (Reading (entry-marks R m (b .0))) (w .below) marks)
-    where
-      old : PhaseOk x R (R .ledger .0) (R .layout) (Reading m)
-      old = subst (PhaseOk x R (R .ledger .0) (R .layout)) ph (w .phase)
+      absent-on-work (entry-marks R m (b .0))
+      (mark-is (λ v. barred x (R .ledger .0) (R .settled .0) v ≡ true) (fragment-of (R .layout) (R .settled .0) .bookies)
+      (write-set (R .layout .sizes) (R .settled .0)) (b .0) m (subst (PhaseOk x R (R .ledger .0) (R .layout)) ph (w .phase)) g)
 
-      marks : (q : ℕ) → marked (entry-marks R m (b .0)) q ≡ true → barred x (R .ledger .0) (R .settled .0) (bookie-at (R .layout) (R .settled .0) q) ≡ true
-      marks =
-          mark-is (λ v. barred x (R .ledger .0) (R .settled .0) v ≡ true) (fragment-of (R .layout) (R .settled .0) .bookies)
-          (write-set (R .layout .sizes) (R .settled .0)) (b .0) m old g
-
-  -- the entry was written back there
-  written-work : (m : List Bool) (b : BookieId) → R .phase ≡ Writing m → held-at x (R .ledger .0) (R .settled .0) (b .0) ≡ true → WorkOk x (heard-written R m b)
-  written-work m b ph g =
-      cond-both (leb (R .layout .sizes .ack) (hits R (entry-marks R m (b .0)))) (in-phase R (next (R .settled .0)) (read-on (next (R .settled .0))))
-      (in-phase R (R .settled .0) (Writing (entry-marks R m (b .0)))) (WorkOk x)
+  -- writing back goes on, or an ack quorum holds the entry
+  written-on-work : (m : List Bool) → PhaseOk x R (R .ledger .0) (R .layout) (Writing m) → WorkOk x (written-on R m)
+  written-on-work m marks =
+      cond-both (leb (R .layout .sizes .ack) (hits R m)) (in-phase R (next (R .settled .0)) (read-on (next (R .settled .0))))
+      (in-phase R (R .settled .0) (Writing m)) (WorkOk x)
       (λ q. work-on (next (R .settled .0))
       (cond-both (ltb (R .settled .0) max-entries) (R .settled .0 + 1) (R .settled .0) (λ v. Copied x (R .ledger .0) v (R .layout))
-      (λ _ e j. one e j (leb-true (R .layout .sizes .ack) (hits R (entry-marks R m (b .0))) q)) (λ _. w .below)))
-      (λ _. work-in (R .settled .0) (Writing (entry-marks R m (b .0))) (w .below) (old .0, marks))
+      (λ _ e j. one e j (leb-true (R .layout .sizes .ack) (hits R m) q)) (λ _. w .below)))
+      (λ _. work-in (R .settled .0) (Writing m) (w .below) marks)
     where
-      old : PhaseOk x R (R .ledger .0) (R .layout) (Writing m)
-      old = subst (PhaseOk x R (R .ledger .0) (R .layout)) ph (w .phase)
-
-      marks : (q : ℕ) → marked (entry-marks R m (b .0)) q ≡ true → held-at x (R .ledger .0) (R .settled .0) (bookie-at (R .layout) (R .settled .0) q) ≡ true
-      marks =
-          mark-is (λ v. held-at x (R .ledger .0) (R .settled .0) v ≡ true) (fragment-of (R .layout) (R .settled .0) .bookies)
-          (write-set (R .layout .sizes) (R .settled .0)) (b .0) m (old .1) g
-
-      one : (e : ℕ) → e < R .settled .0 + 1 → R .layout .sizes .ack ≤ hits R (entry-marks R m (b .0))
+      one : (e : ℕ) → e < R .settled .0 + 1 → R .layout .sizes .ack ≤ hits R m
           → R .layout .sizes .ack ≤ tally (held-at x (R .ledger .0) e) (bookies-of (R .layout) e)
       one e j z =
-          let c = marks-count (held-at x (R .ledger .0) (R .settled .0)) (R .layout) (R .settled .0) (entry-marks R m (b .0)) marks in
+          let c = marks-count (held-at x (R .ledger .0) (R .settled .0)) (R .layout) (R .settled .0) m (marks .1) in
           let here : R .layout .sizes .ack ≤ tally (held-at x (R .ledger .0) (R .settled .0)) (bookies-of (R .layout) (R .settled .0)) = omega arith in
           elim (cases-eq e (R .settled .0)) [
             | inl s ↦ subst (λ (n : ℕ). R .layout .sizes .ack ≤ tally (held-at x (R .ledger .0) n) (bookies-of (R .layout) n)) (sym s) here
             | inr s ↦ w .below e (omega arith)
           ]
+
+  -- the entry was written back there
+  written-work : (m : List Bool) (b : BookieId) → R .phase ≡ Writing m → held-at x (R .ledger .0) (R .settled .0) (b .0) ≡ true → WorkOk x (heard-written R m b)
+  written-work m b ph g =
+      let old : PhaseOk x R (R .ledger .0) (R .layout) (Writing m) = subst (PhaseOk x R (R .ledger .0) (R .layout)) ph (w .phase) in
+      written-on-work (entry-marks R m (b .0)) (
+        old .0,
+        mark-is (λ v. held-at x (R .ledger .0) (R .settled .0) v ≡ true) (fragment-of (R .layout) (R .settled .0) .bookies)
+            (write-set (R .layout .sizes) (R .settled .0)) (b .0) m (old .1) g,
+      )
 
 -- what a reply says of its ledger and entry it says of those at hand
 of-hand : (R : Recoverer) (l e : ℕ) (P : ℕ → ℕ → Type 0) → P l e → at-hand R l e ≡ true → P (R .ledger .0) (R .settled .0)

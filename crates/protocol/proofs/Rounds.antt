@@ -75,7 +75,7 @@ RoundIn h r l y (Reading m) = CoverAnswered h r l y
 RoundIn h r l y (Writing m) = CoverAnswered h r l y
 RoundIn h r l y Ended = CoverAnswered h r l y
 
--- of a recoverer, in its phase
+-- the same of a recoverer, in its phase
 abbrev RoundOk : History → RecovererId → Recoverer → Type 0
 RoundOk h r R = RoundIn h r (R .ledger) (R .layout) (R .phase)
 
@@ -174,7 +174,7 @@ module _ (h : History) (r : RecovererId) (R : Recoverer) where
 abbrev Quiet : Cluster → Outcome → Type 0
 Quiet c o = o .next .recoverers ≡ c .recoverers
 
--- with sizes or without
+-- a create with its sizes, or without
 sized-quiet : (c : Cluster) (l : LedgerId) (bs : BookieList) (s : Option Sizes) → Quiet c (create-sized c l bs s)
 sized-quiet c l bs None = refl
 sized-quiet c l bs (Some s) =
@@ -187,24 +187,24 @@ create-quiet c l e w k bs =
     ask-cases c (Quiet c) (eqb (existing c bs) (length (listed bs))) (fault.Missing (5 + existing c bs)) _ refl
     (λ _. ask-cases c (Quiet c) (not (exists (c .store) (l .0))) fault.Taken _ refl (λ _. sized-quiet c l bs (made-sizes e w k)))
 
--- an append
+-- an append leaves them alone
 append-quiet : (c : Cluster) (l : LedgerId) (body : Body) → Quiet c (append c l body)
 append-quiet c l body =
     ask-cases c (Quiet c) (is-made (writer-of c (l .0) .state)) (fault.Missing 1) _ refl
     (λ _. client-cases c (Quiet c) (append-answer (writer-of c (l .0))) _ (λ f. refl) (λ e. refl))
 
--- a resend
+-- a resend leaves them alone
 resend-quiet : (c : Cluster) (l : LedgerId) → Quiet c (resend c l)
 resend-quiet c l =
     ask-cases c (Quiet c) (is-made (writer-of c (l .0) .state)) (fault.Missing 1) _ refl
     (λ _. client-cases c (Quiet c) (resend-answer (writer-of c (l .0))) _ (λ f. refl) (λ e. refl))
 
--- lost or not
+-- whether the ledger is lost or not
 changed-quiet : (c : Cluster) (l : LedgerId) (p : Position) (b : BookieId) (s : Store) (o : Option EntryId) → Quiet c (changed c l (writer-of c (l .0)) p b s o)
 changed-quiet c l p b s None = refl
 changed-quiet c l p b s (Some e) = refl
 
--- an ensemble change
+-- an ensemble change leaves them alone
 change-quiet : (c : Cluster) (l : LedgerId) (p : Position) (b : BookieId) → Quiet c (change-ensemble c l p b)
 change-quiet c l p b =
     ask-cases c (Quiet c) (is-made (writer-of c (l .0) .state)) (fault.Missing 1) _ refl
@@ -212,12 +212,12 @@ change-quiet c l p b =
     (λ _. client-cases c (Quiet c) (change-answer (writer-of c (l .0)) (c .store) l p b) _ (λ f. refl)
     (changed-quiet c l p b (change-store (writer-of c (l .0)) (c .store) l p b))))
 
--- lost or not
+-- whether the ledger is lost or not
 closed-quiet : (c : Cluster) (l : LedgerId) (s : Store) (o : Option Lac) → Quiet c (closed c l (writer-of c (l .0)) s o)
 closed-quiet c l s None = refl
 closed-quiet c l s (Some n) = refl
 
--- a close
+-- a close leaves them alone
 close-quiet : (c : Cluster) (l : LedgerId) → Quiet c (close c l)
 close-quiet c l =
     ask-cases c (Quiet c) (is-made (writer-of c (l .0) .state)) (fault.Missing 1) _ refl
@@ -359,7 +359,7 @@ module _ (h : History) (c : Cluster) (r : RecovererId) (k : RoundOk h r (recover
   step-round (Stop b) = quiet-round (Stop b) (turn c b false) refl (ask-cases c (Quiet c) (ltb (b .0) (length (c .bookies))) (fault.Missing 1) _ refl (λ _. refl))
   step-round (Start b) = quiet-round (Start b) (turn c b true) refl (ask-cases c (Quiet c) (ltb (b .0) (length (c .bookies))) (fault.Missing 1) _ refl (λ _. refl))
 
--- every run
+-- so every run keeps to it
 run-round : (spaces : List ℕ) (changes room : ℕ) {h : History} {c : Cluster} → Runs [] (empty spaces changes room) h c → (r : RecovererId) → RoundOk h r (recoverer-of c (r .0))
 run-round spaces changes room stay r = all-blank (RoundOk [] r) max-recoverers (r .0) no-recoverer tt
 run-round spaces changes room (more {h = h} {c = c} s g) r = step-round h c r (run-round spaces changes room g r) s
@@ -407,7 +407,7 @@ late-finish ns c r i ended ne = (closed-now, rw (work, ended, in-range-now, ther
     other = ne-eqb (ledger-of c (R .ledger .0) .version .0) (R .version .0) ne
 
 -- the law of rounds --------------------------------------------------------------------------------------------------
--- all of it
+-- recoveries go by their rounds
 pub rounds : RoundsLaw
 rounds h c g =
     record {

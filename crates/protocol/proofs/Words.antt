@@ -165,7 +165,7 @@ closed-known c l v y n sized q =
     subst (λ (m : Metadata). (m .state ≡ Closed) × (answer.ClosingEntry n ≡ answer.ClosingEntry (m .closing)))
     (sym (put-known (c .store) (l .0) (record { version = v; state = Closed; layout = y; closing = n }) sized q)) (refl, refl)
 
--- a close
+-- what an accepted close says
 close-says : {x₀ : World} (ns : List Note) (c : Cluster) (l : LedgerId) → InvAt x₀ ns c → Says l (close c l)
 close-says ns c l i =
     ask-cases c (Says l) (is-made (w .state)) (fault.Missing 1) _ refusing
@@ -185,7 +185,7 @@ pub under-other : (m : Metadata) (v : ℕ) → Under m v → (m .version .0 ≡ 
 under-other m v (inl z) ne = absurd (ne (sym (z .1)))
 under-other m v (inr z) ne = z .0
 
--- a finish
+-- what an accepted finish says
 finish-says : {x₀ : World} (ns : List Note) (c : Cluster) (r : RecovererId) → InvAt x₀ ns c → Says (recoverer-of c (r .0) .ledger) (finish c r)
 finish-says ns c r i =
     ask-cases c (Says l) (at-work (R .phase)) (fault.Missing 1) _ refusing
@@ -205,7 +205,7 @@ finish-says ns c r i =
     refusing : {f : StepFault} → Says l (refuse c f)
     refusing h _ = absurd (false≢true h)
 
--- either
+-- what either says
 closes-says : {x₀ : World} (ns : List Note) (c : Cluster) (s : Step) (l : LedgerId) → InvAt x₀ ns c → Closes l (event c s) → Says l (step c s)
 closes-says ns c s l i (inl did) = subst (λ (v : Step). Says l (step c v)) (sym did) (close-says ns c l i)
 closes-says ns c s l i (inr (r, did, at)) =
@@ -217,7 +217,7 @@ closed-stays : {x y : World} → Later x y → (l : ℕ) (a : Answer) → (x .le
 closed-stays t l a h = let q = t .closed l (h .0) in (q .0, h .1 ∙ ap (λ (k : ℕ). answer.ClosingEntry (lac-id k)) (sym (q .1)))
 
 module _ (c₀ : Cluster) (i₀ : InvAt (world [] c₀) [] c₀) where
-  -- at every later time
+  -- it still holds at every later time
   closed-run : {h : History} {c : Cluster} → Runs [] c₀ h c → (l : LedgerId) (a : Answer) → Once (ClosedWith l a) h → ClosedAs c l a
   closed-run stay l a z = absurd z
   closed-run (more {h = h} {c = c} s r) l a (inl (closes, said, accepted, kept-on)) =
@@ -346,7 +346,7 @@ fence-answered ns c p r l b n i q =
     ]
 
 module _ (c₀ : Cluster) (i₀ : InvAt (world [] c₀) [] c₀) where
-  -- for ever
+  -- and stays so for ever
   answered-fenced : {h : History} {c : Cluster} → Runs [] c₀ h c → (r : RecovererId) (l : LedgerId) (b : BookieId) → Answered h r l b
       → is-fenced (bookie-of c (b .0)) (l .0) ≡ true
   answered-fenced stay r l b z = absurd z
@@ -479,7 +479,7 @@ shut-run c₀ i₀ h₁ c₁ h c r l e body r₁ on (work, at, t, cov, answered)
         subst (λ (u : Layout). u .sizes .ack ≤ tally (acked-by (notes h) (l .0) (e .0)) (bookies-of u (e .0))) (later .frozen (l .0) shut .0)
         (i .writing (l .0) .firm (e .0) (confirmed-lac c₀ i₀ all l e conf))
 
--- all of it
+-- a closed ledger keeps its word
 pub law : Law
 law h c (spaces, changes, room, run) =
     record {

@@ -59,7 +59,7 @@ is-served answer.Served = true
 is-served (answer.Unserved f) = false
 is-served answer.Done = false
 
--- of the delivery of a message that was answered by a
+-- the note of the delivery of a message that was answered by a
 abbrev pub delivery-note : Message → Answer → Note
 delivery-note (Fence r l b) a = nothing
 delivery-note (RecoveryRead r l b e) a = nothing
@@ -73,7 +73,7 @@ delivery-note (Found r l b e n body) a = nothing
 delivery-note (RecoveryAdded r l b e) a = nothing
 delivery-note (Refused r l b f) a = nothing
 
--- of a step from cluster c that was answered by a
+-- the note of a step from cluster c that was answered by a
 abbrev pub note-of : Step → Cluster → Answer → Note
 note-of (Create l e w k bs) c a = nothing
 note-of (Append l body) c a = cond (is-accepted a) (content-note (l .0) body) nothing
@@ -89,7 +89,7 @@ note-of (Discard m) c a = nothing
 note-of (Stop b) c a = nothing
 note-of (Start b) c a = nothing
 
--- of a history
+-- the notes of a history, the last first
 abbrev pub notes : History → List Note
 notes [] = []
 notes (v ∷ h) = note-of (v .did) (v .before) (v .said) ∷ notes h
@@ -128,7 +128,7 @@ pub record World : Type 0 where
   pub writers : ℕ
   pub ledgers : ℕ
 
--- of a cluster
+-- the world of a cluster
 abbrev pub world : List Note → Cluster → World
 world ns c =
     record {
@@ -290,7 +290,7 @@ pub record Inv (x₀ x : World) (rs : ℕ → Recoverer) (ms : List Message) : T
   pub writers : x .writers ≡ max-ledgers
   pub ledgers : x .ledgers ≡ max-ledgers
 
--- of a cluster
+-- the invariant of a cluster
 abbrev pub InvAt : World → List Note → Cluster → Type 0
 InvAt x₀ ns c = Inv x₀ (world ns c) (recoverer-of c) (c .queue .waiting)
 
