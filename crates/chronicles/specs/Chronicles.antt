@@ -3,11 +3,15 @@ use Prim.Native.Nat.{ℕ, min, _-_, _<_, _≤_}
 use mathlib.Core.Path.{_≡_}
 use mathlib.Core.List.{List, [], _∷_, _++_}
 use denote.Ref.{now}
-use lib.ListN.{length, take}
+use lib.ListN.{length, set, take}
 use Rattle.std.specs.declared.option.Option.{Option}
 use Rattle.std.specs.declared.result.Result.{Result}
 use Rattle.std.specs.declared.result.Result.the-variants.{Ok, Err}
+use Rattle.ledgers.specs.declared.ids.Lac.{Lac}
+use Rattle.ledgers.specs.declared.ids.LedgerId.{LedgerId}
+use Rattle.layout.specs.declared.fragments.Layout.{Layout}
 use Rattle.messages.specs.Faults.{when-ok}
+use Rattle.messages.specs.declared.metadata.LedgerState.{LedgerState}
 use Rattle.messages.specs.declared.metadata.Metadata.{Metadata}
 use Rattle.stores.specs.Meaning.{store, new-store}
 use Rattle.chronicles.specs.Replays.{replayed}
@@ -32,9 +36,17 @@ chronicle-ledgers c = replayed (history c)
 abbrev pub chronicle-changes : Chronicle → ℕ
 chronicle-changes c = min max-changes (length (now (c .places))) - c .made
 
--- an accepted call notes one change more, and nothing is ever taken away
-abbrev pub noted-if : {A F : Type 0} → Result A F → List Change → Change → List Change
-noted-if r cs c = when-ok r (cs ++ (c ∷ [])) cs
+-- the change that sets a ledger's record
+abbrev pub change-to : LedgerId → LedgerState → Layout → Lac → Change
+change-to l st y n = record { ledger = l; state = st; layout = y; closing = n }
+
+-- an accepted call notes its change behind the others, and a refused one notes none; nothing is ever taken away
+abbrev pub history-after : {A F : Type 0} → Result A F → Chronicle → Change → List Change
+history-after r c x = when-ok r (history c ++ (x ∷ [])) (history c)
+
+-- it writes the first place that no change stands in, and no other
+abbrev pub places-after : {A F : Type 0} → Result A F → Chronicle → Change → List Change
+places-after r c x = when-ok r (set (now (c .places)) (c .made) x) (now (c .places))
 
 -- n places make a new store with n changes, and more than 60,000 are refused
 abbrev pub SetUp : ℕ → Result Chronicle SetUpFault → Type 0

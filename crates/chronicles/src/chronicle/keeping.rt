@@ -1,16 +1,14 @@
 // A chronicle as a store.
 ghost use mathlib.Core.Path.{_≡_};
-ghost use mathlib.Core.Bool.{true, not};
 ghost use mathlib.Core.List.{[], _∷_, _++_};
 ghost use Prim.Native.Nat.{suc, _≤_};
 ghost use lib.Dec.{leb};
-ghost use lib.ListN.{length, set};
-ghost use Rattle.ledgers.specs.Limits.{is-ledger};
-ghost use Rattle.messages.specs.Faults.{when-ok};
-ghost use Rattle.protocol.specs.Stores.{kept, known, written, get-answer, create-answer, create-after, put-answer, put-after};
+ghost use lib.ListN.{set};
+ghost use Rattle.messages.specs.declared.metadata.LedgerState.the-variants.{Open};
+ghost use Rattle.ledgers.specs.Ids.{lac-id};
+ghost use Rattle.protocol.specs.Stores.{kept, known, written, create-answer, create-after, put-answer, put-after};
 ghost use Rattle.stores.specs.Meaning.{store};
-ghost use Rattle.chronicles.specs.Chronicles.{history, chronicle-ledgers, chronicle-changes, noted-if};
-ghost use Rattle.chronicles.specs.Replays.{replayed};
+ghost use Rattle.chronicles.specs.Chronicles.{history, chronicle-ledgers, chronicle-changes, change-to, history-after, places-after};
 use super::Chronicle;
 use super::MAX_CHANGES;
 use crate::changes::Change;
@@ -47,7 +45,8 @@ impl Chronicle<'_> {
         requires left { ⌜ 1 ≤ chronicle-changes (now self) ⌝ }
         requires version { ⌜ metadata .version .0 ≡ suc (known (kept (store chronicle-ledgers chronicle-changes (now self)) (ledger .0)) .version .0) ⌝ }
         ensures after { λ _. ⌜ store chronicle-ledgers chronicle-changes (now (self .exit)) ≡ written (store chronicle-ledgers chronicle-changes (now (self .entry))) (ledger .0) metadata ⌝ }
-        ensures history { λ _. ⌜ history (now (self .exit)) ≡ history (now (self .entry)) ++ (record { ledger = ledger; state = metadata .state; layout = metadata .layout; closing = metadata .closing } ∷ []) ⌝ }
+        ensures history { λ _. ⌜ history (now (self .exit)) ≡ history (now (self .entry)) ++ (change-to ledger (metadata .state) (metadata .layout) (metadata .closing) ∷ []) ⌝ }
+        ensures places { λ _. ⌜ now (now (self .exit) .places) ≡ set (now (now (self .entry) .places)) (now (self .entry) .made) (change-to ledger (metadata .state) (metadata .layout) (metadata .closing)) ⌝ }
     {
         let made = self.made;
         self.places[made as usize] = Change {
@@ -75,7 +74,12 @@ pub impl Store for Chronicle<'_> as ChronicleStore {
         }
     }
 
-    fn create(&mut self, ledger: LedgerId, layout: &Layout) -> Result<Version, StoreFault> {
+    fn create(&mut self, ledger: LedgerId, layout: &Layout) -> Result<Version, StoreFault>
+        ensures answer { λ r. ⌜ r ≡ create-answer (store chronicle-ledgers chronicle-changes (now (self .entry))) ledger ⌝ }
+        ensures after { λ _. ⌜ store chronicle-ledgers chronicle-changes (now (self .exit)) ≡ create-after (store chronicle-ledgers chronicle-changes (now (self .entry))) ledger (now (layout .entry)) ⌝ }
+        ensures history { λ r. ⌜ history (now (self .exit)) ≡ history-after r (now (self .entry)) (change-to ledger Open (now (layout .entry)) (lac-id 0)) ⌝ }
+        ensures places { λ r. ⌜ now (now (self .exit) .places) ≡ places-after r (now (self .entry)) (change-to ledger Open (now (layout .entry)) (lac-id 0)) ⌝ }
+    {
         if !is_ledger(ledger) {
             return Err(StoreFault::Range);
         }
@@ -90,7 +94,12 @@ pub impl Store for Chronicle<'_> as ChronicleStore {
         Ok(version)
     }
 
-    fn put(&mut self, ledger: LedgerId, expected: Version, state: LedgerState, layout: &Layout, closing: Lac) -> Result<Version, StoreFault> {
+    fn put(&mut self, ledger: LedgerId, expected: Version, state: LedgerState, layout: &Layout, closing: Lac) -> Result<Version, StoreFault>
+        ensures answer { λ r. ⌜ r ≡ put-answer (store chronicle-ledgers chronicle-changes (now (self .entry))) ledger expected ⌝ }
+        ensures after { λ _. ⌜ store chronicle-ledgers chronicle-changes (now (self .exit)) ≡ put-after (store chronicle-ledgers chronicle-changes (now (self .entry))) ledger expected state (now (layout .entry)) closing ⌝ }
+        ensures history { λ r. ⌜ history (now (self .exit)) ≡ history-after r (now (self .entry)) (change-to ledger state (now (layout .entry)) closing) ⌝ }
+        ensures places { λ r. ⌜ now (now (self .exit) .places) ≡ places-after r (now (self .entry)) (change-to ledger state (now (layout .entry)) closing) ⌝ }
+    {
         if !is_ledger(ledger) {
             return Err(StoreFault::Range);
         }

@@ -1,5 +1,5 @@
 use Prim.Native.Nat.{min, _+_, _-_, _<_, _≤_}
-use mathlib.Core.Path.{_≡_, sym, ap, _∙_}
+use mathlib.Core.Path.{_≡_, refl, sym, ap, _∙_}
 use mathlib.Core.List.{List, [], _∷_, _++_}
 use native.Mathlib.Omega.{arith}
 use lib.ListN.{length, take, set, replicate, length-set}
@@ -35,4 +35,5 @@ returns c =
       after = ap (λ (ls : List (Option Metadata)). record { ledgers = ls; changes = min 60000 (length (set xs n new)) - (n + 1) }) rows
           ∙ ap (λ k. record { ledgers = renumbered t (l .0) (Some m); changes = k }) left;
       history = hist;
+      places = refl;
     }
