@@ -1,7 +1,7 @@
 -- What a replay of changes leaves: how long the table is, how high versions are, and what one change more does to a ledger.
 use Prim.Native.Nat.{ℕ, suc, _+_, _-_, _<_, _≤_}
 use mathlib.Core.Path.{_≡_, refl, ap, sym, subst, _∙_}
-use mathlib.Core.Bool.{true, cond}
+use mathlib.Core.Bool.{Bool, true, false, cond}
 use mathlib.Core.List.{List, [], _∷_}
 use mathlib.Core.Logic.{⊎-elim}
 use native.Mathlib.Omega.{arith}
@@ -16,12 +16,13 @@ use Rattle.std.specs.declared.option.Option.{Option}
 use Rattle.std.specs.declared.option.Option.the-variants.{Some, None}
 use Rattle.ledgers.specs.Limits.{is-ledger}
 use Rattle.ledgers.specs.Tables.{row, numbered}
+use Rattle.layout.specs.WriteSets.{tally}
 use Rattle.messages.specs.declared.metadata.Metadata.{Metadata}
 use Rattle.protocol.specs.Stores.{known}
 use Rattle.stores.specs.Versions.{versions-within}
 use Rattle.stores.proofs.Rows.{row-of, has-row}
 use Rattle.stores.proofs.Within.{version-within, within-set}
-use Rattle.chronicles.specs.Replays.{noted, changed, replayed}
+use Rattle.chronicles.specs.Replays.{noted, changed, replayed, of-ledger}
 use Rattle.chronicles.specs.declared.changes.Change.{Change}
 
 -- a change leaves the table as long as it was
@@ -74,13 +75,33 @@ module _ (t : List (Option Metadata)) (c : Change) (l : ℕ) (long : length t �
       ⊎-elim (λ is. its-own is ∙ sym (cond-true _ _ _ (eq-eqb (c .ledger .0) l is)))
       (λ ne. no-other ne ∙ sym (cond-false _ _ _ (ne-eqb (c .ledger .0) l ne))) (cases-eq (c .ledger .0) l)
 
--- what is found of a ledger before the first change,
+-- what is found of a ledger before the first change
 pub found-none : (l : ℕ) → is-ledger l ≡ true → None ≡ numbered (replayed []) l None
 found-none l there =
     let none : List (Option Metadata) = replayed [] in
     sym (ap (λ i. getD none i None) (row-of none l there) ∙ getD-replicate 16 (l - 1) None None (has-row none l refl there))
 
--- and after one change more
+-- a ledger's version goes up by one with each change of it
+version-folded : (cs : List Change) (t : List (Option Metadata)) (l : ℕ) → length t ≡ 16 → is-ledger l ≡ true
+    → known (numbered (folded changed t cs) l None) .version .0 ≡ known (numbered t l None) .version .0 + tally (of-ledger l) cs
+version-folded [] t l long there = omega arith
+version-folded (c ∷ cs) t l long there =
+    let rest = version-folded cs (changed t c) l (length-folded (c ∷ []) t ∙ long) there in
+    let here = ap (λ m. known m .version .0) (numbered-changed t c l long there) in
+    rest ∙ ap (λ v. v + tally (of-ledger l) cs) here ∙ counted (of-ledger l c) (numbered t l None)
+  where
+    counted : (own : Bool) (m : Option Metadata)
+        → known (cond own (Some (noted m c)) m) .version .0 + tally (of-ledger l) cs
+        ≡ known m .version .0 + cond own (suc (tally (of-ledger l) cs)) (tally (of-ledger l) cs)
+    counted true m = omega arith
+    counted false m = refl
+
+pub complete : (cs : List Change) (l : ℕ) → is-ledger l ≡ true → known (numbered (replayed cs) l None) .version .0 ≡ tally (of-ledger l) cs
+complete cs l there =
+    let start = ap (λ m. known m .version .0) (found-none l there) in
+    let all = version-folded cs (replayed []) l refl there in omega (arith, all, start)
+
+-- what is found of a ledger after one change more
 pub found-more : (cs : List Change) (i l : ℕ) (c : Change) (found : Option Metadata) → i < length cs → c ≡ getD cs i c → is-ledger l ≡ true
     → found ≡ numbered (replayed (take i cs)) l None
     → numbered (replayed (take (i + 1) cs)) l None ≡ cond (eqb (c .ledger .0) l) (Some (noted found c)) found

@@ -2,7 +2,9 @@
 ghost use mathlib.Core.Path.{_≡_};
 ghost use Prim.Native.Nat.{_<_};
 ghost use lib.ListN.{length};
-ghost use Rattle.chronicles.specs.Chronicles.{history, SetUp, set-up-number};
+ghost use Rattle.stores.specs.Meaning.{store};
+ghost use Rattle.chronicles.specs.Chronicles.{history, chronicle-ledgers, chronicle-changes, SetUp, set-up-number};
+ghost use Rattle.chronicles.specs.Replays.{Complete};
 use crate::changes::Change;
 
 // The most places that a chronicle takes.
@@ -46,10 +48,19 @@ impl<'a> Chronicle<'a> {
         Ok(Chronicle { places, made: 0 })
     }
 
-    // Every change that was ever accepted, in order.
+    // Every change that was ever accepted, in order. No version of a ledger is missing.
     pub fn changes(&self) -> &[Change]
         ensures value { λ r. ⌜ now r ≡ history (now (self .entry)) ⌝ }
+        ensures complete { λ r. ⌜ Complete (store chronicle-ledgers chronicle-changes (now (self .entry))) (now r) ⌝ }
+    {
+        self.noted()
+    }
+
+    // The same, and that they can be counted.
+    fn noted(&self) -> &[Change]
+        ensures value { λ r. ⌜ now r ≡ history (now (self .entry)) ⌝ }
         ensures few { λ r. ⌜ length (now r) < 4294967296 ⌝ }
+        ensures complete { λ r. ⌜ Complete (store chronicle-ledgers chronicle-changes (now (self .entry))) (now r) ⌝ }
     {
         let made = self.made as usize;
         if made <= self.places.len() {

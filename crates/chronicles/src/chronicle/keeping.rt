@@ -29,7 +29,7 @@ impl Chronicle<'_> {
         ensures value { λ r. ⌜ r ≡ kept (store chronicle-ledgers chronicle-changes (now (self .entry))) (ledger .0) ⌝ }
         ensures version { λ r. ⌜ known r .version .0 ≤ now (self .entry) .made ⌝ }
     {
-        latest(self.changes(), ledger)
+        latest(self.noted(), ledger)
     }
 
     // Whether a change is left.
