@@ -21,7 +21,7 @@ use Rattle.messages.specs.declared.metadata.Metadata.{Metadata}
 use Rattle.protocol.specs.Stores.{known}
 use Rattle.stores.specs.Versions.{versions-within}
 use Rattle.stores.proofs.Rows.{row-of, has-row}
-use Rattle.stores.proofs.Within.{version-within, within-set}
+use Rattle.stores.proofs.Within.{version-within, within-more, within-set}
 use Rattle.chronicles.specs.Replays.{noted, changed, replayed, of-ledger}
 use Rattle.chronicles.specs.declared.changes.Change.{Change}
 
@@ -41,7 +41,7 @@ within-folded [] n t h = subst (λ (k : ℕ). versions-within k t ≡ true) (ome
 within-folded (c ∷ cs) n t h =
     let i = row t (c .ledger .0) in
     let old = version-within n t i h in
-    let next = within-set n t i (noted (numbered t (c .ledger .0) None) c) h (omega arith) in
+    let next = within-set (n + 1) t i (noted (numbered t (c .ledger .0) None) c) (within-more n t h) (omega arith) in
     subst (λ (k : ℕ). versions-within k (folded changed t (c ∷ cs)) ≡ true) (omega arith) (within-folded cs (n + 1) (changed t c) next)
 
 -- so that none is above the number of changes

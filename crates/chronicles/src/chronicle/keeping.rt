@@ -90,11 +90,24 @@ pub impl Store for Chronicle<'_> as ChronicleStore {
             return Err(StoreFault::Full);
         }
         let version = Version(1);
-        self.write(ledger, Metadata { version, state: LedgerState::Open, layout: *layout, closing: Lac(0) });
+        let opened = Metadata {
+            version,
+            state: LedgerState::Open,
+            layout: *layout,
+            closing: Lac(0),
+        };
+        self.write(ledger, opened);
         Ok(version)
     }
 
-    fn put(&mut self, ledger: LedgerId, expected: Version, state: LedgerState, layout: &Layout, closing: Lac) -> Result<Version, StoreFault>
+    fn put(
+        &mut self,
+        ledger: LedgerId,
+        expected: Version,
+        state: LedgerState,
+        layout: &Layout,
+        closing: Lac,
+    ) -> Result<Version, StoreFault>
         ensures answer { λ r. ⌜ r ≡ put-answer (store chronicle-ledgers chronicle-changes (now (self .entry))) ledger expected ⌝ }
         ensures after { λ _. ⌜ store chronicle-ledgers chronicle-changes (now (self .exit)) ≡ put-after (store chronicle-ledgers chronicle-changes (now (self .entry))) ledger expected state (now (layout .entry)) closing ⌝ }
         ensures history { λ r. ⌜ history (now (self .exit)) ≡ history-after r (now (self .entry)) (change-to ledger state (now (layout .entry)) closing) ⌝ }
@@ -113,7 +126,13 @@ pub impl Store for Chronicle<'_> as ChronicleStore {
             return Err(StoreFault::Full);
         }
         let version = Version(expected.0 + 1);
-        self.write(ledger, Metadata { version, state, layout: *layout, closing });
+        let next = Metadata {
+            version,
+            state,
+            layout: *layout,
+            closing,
+        };
+        self.write(ledger, next);
         Ok(version)
     }
 }

@@ -30,8 +30,8 @@ pub loop-change-again : need.loop-change-again
 loop-change-again c =
     let there : is-ledger (c .args .ledger .0) ≡ true = cc in
     let more =
-      found-more (c .args .changes .now) (c .loop-change .change-index) (c .args .ledger .0) (c .change-item .result) (c .loop-change .found)
-        (c .loop-change-test .taken) (c .change-item .is) there (c .loop-change .inv) in
+    found-more (c .args .changes .now) (c .loop-change .change-index) (c .args .ledger .0) (c .change-item .result) (c .loop-change .found)
+    (c .loop-change-test .taken) (c .change-item .is) there (c .loop-change .inv) in
     grind (arith, tells)
 
 pub returns : need.returns

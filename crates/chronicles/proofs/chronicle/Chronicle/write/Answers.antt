@@ -27,9 +27,9 @@ returns c =
     let hist : take (n + 1) (set xs n new) ≡ take n xs ++ (new ∷ []) = take-more-set xs n new lt in
     let t = replayed (take n xs) in
     let rows : replayed (take (n + 1) (set xs n new)) ≡ renumbered t (l .0) (Some m) =
-      ap replayed hist ∙ folded-push changed (replicate 16 None) (take n xs) new
-      ∙ ap (λ v. renumbered t (l .0) (Some (record { version = version-id v; state = m .state; layout = m .layout; closing = m .closing })))
-        (sym (c .pre .version)) in
+    ap replayed hist ∙ folded-push changed (replicate 16 None) (take n xs) new
+    ∙ ap (λ v. renumbered t (l .0) (Some (record { version = version-id v; state = m .state; layout = m .layout; closing = m .closing })))
+    (sym (c .pre .version)) in
     let left : min 60000 (length (set xs n new)) - (n + 1) ≡ min 60000 (length xs) - n - 1 = simp length-set (omega arith) in
     record {
       after = ap (λ (ls : List (Option Metadata)). record { ledgers = ls; changes = min 60000 (length (set xs n new)) - (n + 1) }) rows
