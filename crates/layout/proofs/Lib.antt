@@ -1,2 +1,3 @@
 pub mod Same
 pub mod Turns
+pub mod Onward
