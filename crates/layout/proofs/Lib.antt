@@ -1,3 +1,4 @@
 pub mod Same
 pub mod Turns
 pub mod Left
+pub mod Onward

@@ -2,3 +2,4 @@ pub mod Sizes
 pub mod WriteSets
 pub mod Positions
 pub mod Layouts
+pub mod Rising

@@ -1,12 +1,8 @@
 -- What a table keeps, and how many changes it can still take.
 use Prim.Native.Nat.{ℕ, _-_}
 use mathlib.Core.List.{List}
-use lib.ListN.{replicate}
 use Rattle.std.specs.declared.option.Option.{Option}
-use Rattle.std.specs.declared.option.Option.the-variants.{None}
-use Rattle.ledgers.specs.Limits.{max-ledgers}
 use Rattle.messages.specs.declared.metadata.Metadata.{Metadata}
-use Rattle.protocol.specs.Stores.{Store}
 use Rattle.stores.specs.declared.table.Table.{Table}
 
 abbrev pub table-ledgers : Table → List (Option Metadata)
@@ -14,7 +10,3 @@ table-ledgers t = t .ledgers
 
 abbrev pub table-changes : Table → ℕ
 table-changes t = 60000 - t .made
-
--- a store without a ledger
-abbrev pub new-store : ℕ → Store
-new-store n = record { ledgers = replicate max-ledgers None; changes = n }

@@ -31,7 +31,14 @@ pub trait Store {
         ensures after { λ _. ⌜ store ledgers changes (now (self .exit)) ≡ create-after (store ledgers changes (now (self .entry))) ledger (now (layout .entry)) ⌝ };
 
     // The record of a ledger is set and its version raised by one, if that is the one expected.
-    fn put(&mut self, ledger: LedgerId, expected: Version, state: LedgerState, layout: &Layout, closing: Lac) -> Result<Version, StoreFault>
+    fn put(
+        &mut self,
+        ledger: LedgerId,
+        expected: Version,
+        state: LedgerState,
+        layout: &Layout,
+        closing: Lac,
+    ) -> Result<Version, StoreFault>
         ensures answer { λ r. ⌜ r ≡ put-answer (store ledgers changes (now (self .entry))) ledger expected ⌝ }
         ensures after { λ _. ⌜ store ledgers changes (now (self .exit)) ≡ put-after (store ledgers changes (now (self .entry))) ledger expected state (now (layout .entry)) closing ⌝ };
 }

@@ -6,5 +6,6 @@
 // store; `Table` is the one that keeps the present records in memory. Both answers and what is kept after a call are
 // the protocol's own definitions, for every argument: a call has no premise, and one that is refused alters nothing.
 pub mod calls;
+pub mod faults;
 pub mod questions;
 pub mod table;

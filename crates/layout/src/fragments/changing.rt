@@ -2,6 +2,7 @@
 ghost use mathlib.Core.Path.{_≡_};
 ghost use lib.ListN.{set};
 ghost use Rattle.layout.specs.Layouts.{first-layout, room-for, changed-place, changed-fragment, changed-layout};
+ghost use Rattle.layout.specs.Rising.{Rising, Onward};
 use super::Fragment;
 use super::Layout;
 use super::MAX_FRAGMENTS;
@@ -15,7 +16,16 @@ use ledgers::ids::Position;
 impl Layout {
     // The layout of a new ledger: one fragment, from entry 0 on, with these bookies by position.
     pub fn first(sizes: Sizes, bookies: &BookieList) -> Layout
-        ensures { λ r. ⌜ r ≡ first-layout sizes (now (bookies .entry) .numbers) ⌝ }
+        ensures layout { λ r. ⌜ r ≡ first-layout sizes (now (bookies .entry) .numbers) ⌝ }
+        ensures rising { λ r. ⌜ Rising r ⌝ }
+    {
+        Layout::single(sizes, bookies)
+    }
+
+    // The layout with a single fragment.
+    fn single(sizes: Sizes, bookies: &BookieList) -> Layout
+        ensures layout { λ r. ⌜ r ≡ first-layout sizes (now (bookies .entry) .numbers) ⌝ }
+        ensures rising { λ r. ⌜ Rising r ⌝ }
     {
         let mut fragments = [Fragment::blank(); MAX_FRAGMENTS];
         fragments[0].bookies = by_position(bookies);
@@ -36,7 +46,8 @@ impl Layout {
     // The layout with a bookie put at a position from an entry on: the last fragment is altered if it begins there, and
     // else one is added. A position that no fragment has, and a ninth fragment, leave no trace.
     pub fn changed(&self, first: EntryId, position: Position, bookie: BookieId) -> Layout
-        ensures { λ r. ⌜ r ≡ changed-layout (now (self .entry)) (first .0) (position .0) (bookie .0) ⌝ }
+        ensures layout { λ r. ⌜ r ≡ changed-layout (now (self .entry)) (first .0) (position .0) (bookie .0) ⌝ }
+        ensures rising { λ r. ⌜ (Rising (now (self .entry)) → Onward (now (self .entry)) (first .0) → Rising r) ⌝ }
     {
         let mut layout = *self;
         layout.change(first, position, bookie);
@@ -45,7 +56,8 @@ impl Layout {
 
     // The same in place.
     fn change(&mut self, first: EntryId, position: Position, bookie: BookieId)
-        ensures { λ _. ⌜ now (self .exit) ≡ changed-layout (now (self .entry)) (first .0) (position .0) (bookie .0) ⌝ }
+        ensures layout { λ _. ⌜ now (self .exit) ≡ changed-layout (now (self .entry)) (first .0) (position .0) (bookie .0) ⌝ }
+        ensures rising { λ _. ⌜ (Rising (now (self .entry)) → Onward (now (self .entry)) (first .0) → Rising (now (self .exit))) ⌝ }
     {
         let fragment = self.last_fragment().changed(first, position, bookie);
         let at = self.place_from(first);

@@ -2,10 +2,13 @@
 ghost use mathlib.Core.Path.{_≡_};
 ghost use mathlib.Core.Bool.{true};
 ghost use Prim.Native.Nat.{_≤_, _<_, _+_};
+ghost use lib.Dec.{leb};
+ghost use Rattle.std.specs.declared.option.Option.the-variants.{Some};
+ghost use Rattle.ledgers.specs.Tables.{renumbered};
 ghost use Rattle.ledgers.specs.Limits.{is-ledger};
 ghost use Rattle.protocol.specs.Stores.{kept, known, written};
-ghost use Rattle.stores.specs.Meaning.{store};
-ghost use Rattle.stores.specs.Tables.{table-ledgers, table-changes, new-store};
+ghost use Rattle.stores.specs.Meaning.{store, new-store};
+ghost use Rattle.stores.specs.Tables.{table-ledgers, table-changes};
 use super::TABLE_CHANGES;
 use super::Table;
 use crate::calls::Store;
@@ -41,15 +44,41 @@ impl Table {
         }
     }
 
+    // Whether a change is left.
+    fn has_room(&self) -> bool
+        ensures { λ r. ⌜ r ≡ leb 1 (table-changes (now (self .entry))) ⌝ }
+    {
+        self.made < TABLE_CHANGES
+    }
+
     // Sets the metadata of a ledger, which takes a change.
-    fn write(&mut self, ledger: LedgerId, metadata: Metadata)
+    fn change(&mut self, ledger: LedgerId, metadata: Metadata)
         requires there { ⌜ is-ledger (ledger .0) ≡ true ⌝ }
-        requires left { ⌜ now self .made < 60000 ⌝ }
+        requires left { ⌜ 1 ≤ table-changes (now self) ⌝ }
         requires version { ⌜ metadata .version .0 ≤ now self .made + 1 ⌝ }
         ensures { λ _. ⌜ store table-ledgers table-changes (now (self .exit)) ≡ written (store table-ledgers table-changes (now (self .entry))) (ledger .0) metadata ⌝ }
     {
-        self.ledgers[ledger.0 as usize - 1] = Some(metadata);
+        self.count_change();
+        self.write(ledger, metadata);
+    }
+
+    // A change is taken.
+    fn count_change(&mut self)
+        requires { ⌜ now self .made < 60000 ⌝ }
+        ensures ledgers { λ _. ⌜ now (self .exit) .ledgers ≡ now (self .entry) .ledgers ⌝ }
+        ensures made { λ _. ⌜ now (self .exit) .made ≡ now (self .entry) .made + 1 ⌝ }
+    {
         self.made += 1;
+    }
+
+    // A row is set.
+    fn write(&mut self, ledger: LedgerId, metadata: Metadata)
+        requires there { ⌜ is-ledger (ledger .0) ≡ true ⌝ }
+        requires version { ⌜ metadata .version .0 ≤ now self .made ⌝ }
+        ensures ledgers { λ _. ⌜ now (self .exit) .ledgers ≡ renumbered (now (self .entry) .ledgers) (ledger .0) (Some metadata) ⌝ }
+        ensures made { λ _. ⌜ now (self .exit) .made ≡ now (self .entry) .made ⌝ }
+    {
+        self.ledgers[ledger.0 as usize - 1] = Some(metadata);
     }
 }
 
@@ -75,15 +104,28 @@ pub impl Store for Table as TableStore {
         if self.kept(ledger).is_some() {
             return Err(StoreFault::Existence);
         }
-        if self.made == TABLE_CHANGES {
+        if !self.has_room() {
             return Err(StoreFault::Full);
         }
         let version = Version(1);
-        self.write(ledger, Metadata { version, state: LedgerState::Open, layout: *layout, closing: Lac(0) });
+        let opened = Metadata {
+            version,
+            state: LedgerState::Open,
+            layout: *layout,
+            closing: Lac(0),
+        };
+        self.change(ledger, opened);
         Ok(version)
     }
 
-    fn put(&mut self, ledger: LedgerId, expected: Version, state: LedgerState, layout: &Layout, closing: Lac) -> Result<Version, StoreFault> {
+    fn put(
+        &mut self,
+        ledger: LedgerId,
+        expected: Version,
+        state: LedgerState,
+        layout: &Layout,
+        closing: Lac,
+    ) -> Result<Version, StoreFault> {
         if !is_ledger(ledger) {
             return Err(StoreFault::Range);
         }
@@ -93,11 +135,17 @@ pub impl Store for Table as TableStore {
         if present.version.0 != expected.0 {
             return Err(StoreFault::Version);
         }
-        if self.made == TABLE_CHANGES {
+        if !self.has_room() {
             return Err(StoreFault::Full);
         }
         let version = Version(expected.0 + 1);
-        self.write(ledger, Metadata { version, state, layout: *layout, closing });
+        let next = Metadata {
+            version,
+            state,
+            layout: *layout,
+            closing,
+        };
+        self.change(ledger, next);
         Ok(version)
     }
 }
