@@ -57,7 +57,7 @@ impl<'a> JournalBookie<'a> {
         ensures laid { λ r. ⌜ now r ≡ laid-out (length (now r)) (in-journal (now (self .entry)) .entries) (in-journal (now (self .entry)) .fences) ⌝ }
         ensures law { λ _. ⌜ Reads-back ⌝ }
     {
-        &self.journal.file[0..]
+        self.journal.bytes()
     }
 
     // How many whole records still fit.
