@@ -5,7 +5,7 @@ ghost use Rattle.ledgers.specs.Tables.{numbered, renumbered};
 use ledgers::ids::LedgerId;
 use ledgers::ids::MAX_LEDGERS;
 
-pub fn is_raised(flags: &[bool; 16], ledger: LedgerId) -> bool
+pub(crate) fn is_raised(flags: &[bool; 16], ledger: LedgerId) -> bool
     ensures { λ r. ⌜ r ≡ numbered (now (flags .entry)) (ledger .0) false ⌝ }
 {
     if ledger.0 < 1 || ledger.0 > MAX_LEDGERS {
@@ -14,7 +14,7 @@ pub fn is_raised(flags: &[bool; 16], ledger: LedgerId) -> bool
     flags[ledger.0 as usize - 1]
 }
 
-pub fn raise(flags: &mut [bool; 16], ledger: LedgerId)
+pub(crate) fn raise(flags: &mut [bool; 16], ledger: LedgerId)
     ensures { λ _. ⌜ now (flags .exit) ≡ renumbered (now (flags .entry)) (ledger .0) true ⌝ }
 {
     if ledger.0 < 1 || ledger.0 > MAX_LEDGERS {

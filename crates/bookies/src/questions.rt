@@ -63,21 +63,22 @@ pub fn add<S: Storage>(
     if storage.is_fenced(ledger) && !recovery {
         return Err(BookieFault::Fenced);
     }
+    let wanted = Held {
+        ledger,
+        entry,
+        lac,
+        body,
+    };
     match storage.copy_of(ledger, entry) {
         Some(held) => {
-            if same_content(&held.body, &body) {
+            if same_content(&held.body, &wanted.body) {
                 Ok(())
             } else {
                 Err(BookieFault::OtherBody)
             }
         }
         None => {
-            if storage.keep(Held {
-                ledger,
-                entry,
-                lac,
-                body,
-            }) {
+            if storage.keep(wanted) {
                 Ok(())
             } else {
                 Err(BookieFault::Full)

@@ -7,7 +7,7 @@ use ledgers::ids::LedgerId;
 use messages::entries::Held;
 
 // The copy of an entry.
-pub fn find(records: &[Held], ledger: LedgerId, number: EntryId) -> Option<Held>
+pub(crate) fn find(records: &[Held], ledger: LedgerId, number: EntryId) -> Option<Held>
     ensures { λ r. ⌜ r ≡ copy-in (now (records .entry)) (ledger .0) (number .0) ⌝ }
 {
     for held in records {
@@ -19,7 +19,7 @@ pub fn find(records: &[Held], ledger: LedgerId, number: EntryId) -> Option<Held>
 }
 
 // The highest LAC among the entries of a ledger.
-pub fn highest(records: &[Held], ledger: LedgerId) -> Lac
+pub(crate) fn highest(records: &[Held], ledger: LedgerId) -> Lac
     ensures { λ r. ⌜ r .0 ≡ highest-lac (now (records .entry)) (ledger .0) ⌝ }
 {
     let mut best = 0;

@@ -25,6 +25,12 @@ pub struct JournalFile<'a> {
 }
 
 impl JournalFile<'_> {
+    pub(crate) fn bytes(&self) -> &[u8]
+        ensures { λ r. ⌜ now r ≡ now (now (self .entry) .file) ⌝ }
+    {
+        self.file
+    }
+
     // The header's number at a place.
     pub(crate) fn number(&self, at: usize) -> u32
         requires { ⌜ at + 4 ≤ length (now (now self .file)) ⌝ }
