@@ -48,13 +48,14 @@ bookies-of y e = map (bookie-at y e) (write-set (y .sizes) e)
 -- a new ledger has one fragment, from entry 0 on
 abbrev pub first-layout : Sizes → List ℕ → Layout
 first-layout s bs =
-    record
-      { sizes = s
-      ; fragments = record { first = entry-id 0; bookies = bs } ∷ replicate 7 blank-fragment
-      ; count = 1
-      ; eight = refl
-      ; some = lit≤ tt
-      ; few = lit≤ tt }
+    record {
+      sizes = s;
+      fragments = record { first = entry-id 0; bookies = bs } ∷ replicate 7 blank-fragment;
+      count = 1;
+      eight = refl;
+      some = lit≤ tt;
+      few = lit≤ tt;
+    }
 
 -- no ledger's layout
 abbrev pub no-layout : Layout
@@ -81,10 +82,11 @@ changed-count y n = cond (alters y n) (y .count) (min 8 (suc (y .count)))
 
 abbrev pub changed-layout : Layout → ℕ → ℕ → ℕ → Layout
 changed-layout y n p b =
-    record
-      { sizes = y .sizes
-      ; fragments = set (y .fragments) (changed-place y n) (changed-fragment (last-fragment y) n p b)
-      ; count = changed-count y n
-      ; eight = length-set (y .fragments) (changed-place y n) (changed-fragment (last-fragment y) n p b) ∙ y .eight
-      ; some = cond-both (alters y n) (y .count) (min 8 (suc (y .count))) (λ k. 1 ≤ k) (λ _. y .some) (λ _. omega arith)
-      ; few = cond-both (alters y n) (y .count) (min 8 (suc (y .count))) (λ k. k ≤ 8) (λ _. y .few) (λ _. omega arith) }
+    record {
+      sizes = y .sizes;
+      fragments = set (y .fragments) (changed-place y n) (changed-fragment (last-fragment y) n p b);
+      count = changed-count y n;
+      eight = length-set (y .fragments) (changed-place y n) (changed-fragment (last-fragment y) n p b) ∙ y .eight;
+      some = cond-both (alters y n) (y .count) (min 8 (suc (y .count))) (λ k. 1 ≤ k) (λ _. y .some) (λ _. omega arith);
+      few = cond-both (alters y n) (y .count) (min 8 (suc (y .count))) (λ k. k ≤ 8) (λ _. y .few) (λ _. omega arith);
+    }

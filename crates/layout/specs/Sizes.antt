@@ -10,14 +10,15 @@ use Rattle.layout.specs.declared.sizes.Sizes.{Sizes}
 -- the sizes of these numbers, each as far as the one before allows
 abbrev pub sizes-of : ℕ → ℕ → ℕ → Sizes
 sizes-of e w k =
-    record
-      { ensemble = max 1 (min e 5)
-      ; write = max 1 (min w (max 1 (min e 5)))
-      ; ack = max 1 (min k (max 1 (min w (max 1 (min e 5)))))
-      ; small = omega arith
-      ; written = omega arith
-      ; acked = omega arith
-      ; some = omega arith }
+    record {
+      ensemble = max 1 (min e 5);
+      write = max 1 (min w (max 1 (min e 5)));
+      ack = max 1 (min k (max 1 (min w (max 1 (min e 5)))));
+      small = omega arith;
+      written = omega arith;
+      acked = omega arith;
+      some = omega arith;
+    }
 
 -- an ensemble has five positions at most, a write quorum is some of them, and an ack quorum some of those
 abbrev pub in-order : ℕ → ℕ → ℕ → Bool

@@ -8,7 +8,7 @@ pub returns-then-position : need.returns-then-position
 returns-then-position c =
     let s = c .args .self .now in
     sym (member-at (s .write) (c .args .e .0) (s .ensemble) (c .loop-offset .offset) (c .args .position .0) (omega arith)
-      (omega (arith, c .position .ensures .value)))
+    (omega (arith, c .position .ensures .value)))
 
 pub loop-offset-again : need.loop-offset-again
 loop-offset-again c =
