@@ -5,7 +5,7 @@ use mathlib.Core.Bool.{Bool, true, false, cond}
 use mathlib.Core.List.{List}
 use mathlib.Core.Logic.{⊎-elim}
 use native.Mathlib.Omega.{arith}
-use lib.ListN.{length, getD, set}
+use lib.ListN.{length, set}
 use Rattle.std.proofs.shelf.Lists.{getD-set-same, getD-set-other, set-past}
 use Rattle.std.proofs.shelf.Tests.{eqb-true, eqb-false, cases-eq, cases-lt}
 use Rattle.ledgers.specs.Limits.{max-entries}

@@ -1,6 +1,5 @@
-use mathlib.Core.Path.{_≡_, refl, sym, ap, subst, _∙_}
+use mathlib.Core.Path.{refl, sym, ap, subst, _∙_}
 use mathlib.Core.List.{_∷_}
-use native.Mathlib.Omega.{arith}
 use lib.ListN.{replicate}
 use Rattle.layout.specs.Layouts.{first-layout}
 use Rattle.layout.specs.Rising.{Rising}
