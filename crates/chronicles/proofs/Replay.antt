@@ -1,6 +1,6 @@
--- What a replay of changes leaves: how long the table is, how high versions are, and what one change more does to a ledger.
+-- What a replay of changes leaves: how long the table is, what one change more does to a ledger, and how high versions are.
 use Prim.Native.Nat.{ℕ, suc, _+_, _-_, _<_, _≤_}
-use mathlib.Core.Path.{_≡_, refl, ap, sym, subst, _∙_}
+use mathlib.Core.Path.{_≡_, refl, ap, sym, _∙_}
 use mathlib.Core.Bool.{Bool, true, false, cond}
 use mathlib.Core.List.{List, [], _∷_}
 use mathlib.Core.Logic.{⊎-elim}
@@ -9,7 +9,7 @@ use lib.Dec.{eqb}
 use lib.ListN.{length, take, getD, set, replicate, length-set}
 use Rattle.std.proofs.shelf.Lists.{getD-set-same, getD-set-other, getD-replicate}
 use Rattle.std.proofs.shelf.Sums.{folded-more}
-use Rattle.std.proofs.shelf.Tests.{cond-true, cond-false, eq-eqb, ne-eqb, cases-eq}
+use Rattle.std.proofs.shelf.Tests.{cond-true, cond-false, cond-both, eq-eqb, ne-eqb, cases-eq, cases-bool}
 use Rattle.std.proofs.shelf.Ways.{tells}
 use Rattle.std.specs.Iters.{folded}
 use Rattle.std.specs.declared.option.Option.{Option}
@@ -19,9 +19,7 @@ use Rattle.ledgers.specs.Tables.{row, numbered}
 use Rattle.layout.specs.WriteSets.{tally}
 use Rattle.messages.specs.declared.metadata.Metadata.{Metadata}
 use Rattle.protocol.specs.Stores.{known}
-use Rattle.stores.specs.Versions.{versions-within}
-use Rattle.stores.proofs.Rows.{row-of, has-row}
-use Rattle.stores.proofs.Within.{version-within, within-more, within-set}
+use Rattle.stores.proofs.Rows.{row-of, has-row, none-numbered}
 use Rattle.chronicles.specs.Replays.{noted, changed, replayed, of-ledger}
 use Rattle.chronicles.specs.declared.changes.Change.{Change}
 
@@ -31,24 +29,9 @@ length-folded [] t = refl
 length-folded (c ∷ cs) t =
     length-folded cs (changed t c) ∙ length-set t (row t (c .ledger .0)) (Some (noted (numbered t (c .ledger .0) None) c))
 
+-- which has a row for each ledger
 pub length-replayed : (cs : List Change) → length (replayed cs) ≡ 16
 length-replayed cs = length-folded cs _
-
--- a change raises no version by more than one
-within-folded : (cs : List Change) (n : ℕ) (t : List (Option Metadata)) → versions-within n t ≡ true
-    → versions-within (n + length cs) (folded changed t cs) ≡ true
-within-folded [] n t h = subst (λ (k : ℕ). versions-within k t ≡ true) (omega arith) h
-within-folded (c ∷ cs) n t h =
-    let i = row t (c .ledger .0) in
-    let old = version-within n t i h in
-    let next = within-set (n + 1) t i (noted (numbered t (c .ledger .0) None) c) (within-more n t h) (omega arith) in
-    subst (λ (k : ℕ). versions-within k (folded changed t (c ∷ cs)) ≡ true) (omega arith) (within-folded cs (n + 1) (changed t c) next)
-
--- so that none is above the number of changes
-pub kept-within : (cs : List Change) (l : ℕ) → known (numbered (replayed cs) l None) .version .0 ≤ length cs
-kept-within cs l =
-    let within = within-folded cs 0 (replicate 16 None) refl in
-    let k = version-within (0 + length cs) (replayed cs) (row (replayed cs) l) within in omega arith
 
 -- a change is one of its own ledger, and of no other
 module _ (t : List (Option Metadata)) (c : Change) (l : ℕ) (long : length t ≡ 16) (there : is-ledger l ≡ true) where
@@ -96,10 +79,25 @@ version-folded (c ∷ cs) t l long there =
     counted true m = omega arith
     counted false m = refl
 
+-- which is the number of its changes
 pub complete : (cs : List Change) (l : ℕ) → is-ledger l ≡ true → known (numbered (replayed cs) l None) .version .0 ≡ tally (of-ledger l) cs
 complete cs l there =
     let start = ap (λ m. known m .version .0) (found-none l there) in
     let all = version-folded cs (replayed []) l refl there in omega (arith, all, start)
+
+tally-few : (t : Change → Bool) (cs : List Change) → tally t cs ≤ length cs
+tally-few t [] = omega arith
+tally-few t (c ∷ cs) =
+    let rest = tally-few t cs in
+    cond-both (t c) (suc (tally t cs)) (tally t cs) (λ n. n ≤ suc (length cs)) (λ _. omega arith) (λ _. omega arith)
+
+-- so that no version is above the number of changes, whatever number a ledger has
+pub kept-within : (cs : List Change) (l : ℕ) → known (numbered (replayed cs) l None) .version .0 ≤ length cs
+kept-within cs l =
+    ⊎-elim (λ (there : is-ledger l ≡ true). omega (arith, complete cs l there, tally-few (of-ledger l) cs))
+    (λ (none : is-ledger l ≡ false).
+      omega (arith, ap (λ m. known m .version .0) (none-numbered (replayed cs) l None (length-replayed cs) none)))
+    (cases-bool (is-ledger l))
 
 -- what is found of a ledger after one change more
 pub found-more : (cs : List Change) (i l : ℕ) (c : Change) (found : Option Metadata) → i < length cs → c ≡ getD cs i c → is-ledger l ≡ true

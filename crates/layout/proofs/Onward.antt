@@ -5,7 +5,7 @@ use mathlib.Core.Bool.{Bool, true, false, cond}
 use mathlib.Core.List.{List}
 use mathlib.Core.Logic.{⊎-elim}
 use native.Mathlib.Omega.{arith}
-use lib.ListN.{length, getD, set}
+use lib.ListN.{length, set}
 use Rattle.std.proofs.shelf.Lists.{getD-set-same, getD-set-other, set-past}
 use Rattle.std.proofs.shelf.Tests.{eqb-true, eqb-false, cases-eq, cases-lt}
 use Rattle.ledgers.specs.Limits.{max-entries}
@@ -44,9 +44,9 @@ module _ (fs : List Fragment) (n : ℕ) (h : Rises fs n) where
               λ i l.
               ⊎-elim (λ (k : i + 1 < n). omega (arith, before i (omega arith), before (i + 1) k, h .rises i k))
               (λ (k : n ≤ i + 1).
-                let e : i + 1 ≡ n = omega arith in
-                let d : i ≡ n - 1 = omega arith in
-                omega (arith, before i (omega arith), ap (first-of fs) d, ap (first-of (set fs n f)) e, there, later))
+              let e : i + 1 ≡ n = omega arith in
+              let d : i ≡ n - 1 = omega arith in
+              omega (arith, before i (omega arith), ap (first-of fs) d, ap (first-of (set fs n f)) e, there, later))
               (cases-lt (i + 1) n);
           ends = let e : (n + 1) - 1 ≡ n = omega arith in omega (arith, ap (first-of (set fs n f)) e, there, few);
         }
@@ -61,14 +61,14 @@ module _ (y : Layout) (n p b : ℕ) (h : Rising y) (on : Onward y n) where
   altered is =
       same-firsts (y .fragments) (y .count) h (set (y .fragments) (y .count - 1) f)
       (λ i.
-        ⊎-elim
-        (λ (e : i ≡ y .count - 1).
-          ap (first-of (set (y .fragments) (y .count - 1) f)) e
-          ∙ ap (λ (x : Fragment). x .first .0)
-            (getD-set-same (y .fragments) (y .count - 1) f no-fragment (omega (arith, y .eight, y .few, y .some)))
-          ∙ sym is ∙ ap (first-of (y .fragments)) (sym e))
-        (λ (ne : i ≡ y .count - 1 → ⊥). ap (λ (x : Fragment). x .first .0) (getD-set-other (y .fragments) (y .count - 1) i f no-fragment ne))
-        (cases-eq i (y .count - 1)))
+      ⊎-elim
+      (λ (e : i ≡ y .count - 1).
+      ap (first-of (set (y .fragments) (y .count - 1) f)) e
+      ∙ ap (λ (x : Fragment). x .first .0)
+      (getD-set-same (y .fragments) (y .count - 1) f no-fragment (omega (arith, y .eight, y .few, y .some)))
+      ∙ sym is ∙ ap (first-of (y .fragments)) (sym e))
+      (λ (ne : i ≡ y .count - 1 → ⊥). ap (λ (x : Fragment). x .first .0) (getD-set-other (y .fragments) (y .count - 1) i f no-fragment ne))
+      (cases-eq i (y .count - 1)))
 
   -- a fragment is added, unless there is no place for it
   added : (last-first y ≡ n → ⊥) → Rises (set (y .fragments) (y .count) f) (min 8 (suc (y .count)))
@@ -76,15 +76,15 @@ module _ (y : Layout) (n p b : ℕ) (h : Rising y) (on : Onward y n) where
   added ne =
       ⊎-elim
       (λ (l : y .count < 8).
-        let k : y .count + 1 ≡ min 8 (suc (y .count)) = omega arith in
-        let later : last-first y < n = omega (arith, on .0, ne) in
-        subst (λ (m : ℕ). Rises (set (y .fragments) (y .count) f) m) k
-          (one-more (y .fragments) (y .count) h f (y .some) (omega (arith, y .eight)) later (on .1)))
+      let k : y .count + 1 ≡ min 8 (suc (y .count)) = omega arith in
+      let later : last-first y < n = omega (arith, on .0, ne) in
+      subst (λ (m : ℕ). Rises (set (y .fragments) (y .count) f) m) k
+      (one-more (y .fragments) (y .count) h f (y .some) (omega (arith, y .eight)) later (on .1)))
       (λ (l : 8 ≤ y .count).
-        let k : y .count ≡ min 8 (suc (y .count)) = omega (arith, y .few) in
-        let past = set-past (y .fragments) (y .count) f (omega (arith, y .eight)) in
-        subst (λ (m : ℕ). Rises (set (y .fragments) (y .count) f) m) k
-          (subst (λ (fs : List Fragment). Rises fs (y .count)) (sym past) h))
+      let k : y .count ≡ min 8 (suc (y .count)) = omega (arith, y .few) in
+      let past = set-past (y .fragments) (y .count) f (omega (arith, y .eight)) in
+      subst (λ (m : ℕ). Rises (set (y .fragments) (y .count) f) m) k
+      (subst (λ (fs : List Fragment). Rises fs (y .count)) (sym past) h))
       (cases-lt (y .count) 8)
 
   pub changed-rises : Rising (changed-layout y n p b)

@@ -1,6 +1,6 @@
 -- Sizes, and layouts, that have the same parts are the same: their invariants add nothing to them.
 use Prim.Native.Nat.{ℕ, suc, min, _+_, _-_, _<_, _≤_}
-use mathlib.Core.Path.{_≡_, refl, sym, _∙_}
+use mathlib.Core.Path.{_≡_, refl}
 use mathlib.Core.Bool.{Bool, true, false, cond}
 use mathlib.Core.HLevel.{isProp→PathP}
 use native.Mathlib.Bridge.{le-prop}

@@ -1,5 +1,5 @@
 -- A loop's turns through the positions of a write set, the write sets of an ensemble, and the fragments of a layout.
-use Prim.Native.Nat.{ℕ, zero, suc, _+_, _%_, _<_, _≤_}
+use Prim.Native.Nat.{ℕ, zero, suc, _+_, _%_, _<_}
 use mathlib.Core.Path.{_≡_, refl, ap, sym, _∙_}
 use mathlib.Core.Bool.{Bool, true, false, cond}
 use mathlib.Core.List.{List, [], _∷_, _++_}
@@ -36,8 +36,13 @@ tally-push t (y ∷ xs) x = rw (tally-push t xs x) (go (t y) (tally t xs) (cond 
 -- one more to look at
 member-push : (x : ℕ) (ys : List ℕ) (y : ℕ) → member x (ys ++ (y ∷ [])) ≡ cond (member x ys) true (eqb x y)
 member-push x [] y = elim (eqb x y) as (λ v. cond v true false ≡ v) [ true ↦ refl | false ↦ refl ]
-member-push x (z ∷ ys) y = rw (member-push x ys y) (elim (eqb x z) as (λ v. cond v true (cond (member x ys) true (eqb x y)) ≡ cond (cond v true (member x ys)) true (eqb x y)) [ true ↦ refl | false ↦ refl ])
+member-push x (z ∷ ys) y = rw (member-push x ys y) (inside (eqb x z) (member x ys) (eqb x y))
+  where
+    inside : (u v w : Bool) → cond u true (cond v true w) ≡ cond (cond u true v) true w
+    inside true v w = refl
+    inside false v w = refl
 
+-- a turn of a loop that counts, or looks for, positions
 module _ (e m i : ℕ) where
   pub tally-more : (t : ℕ → Bool) → tally t (positions (i + 1) e m) ≡ tally t (positions i e m) + cond (t ((e + i) % m)) 1 0
   tally-more t = ap (tally t) (positions-push i e m) ∙ tally-push t (positions i e m) ((e + i) % m)

@@ -1,6 +1,5 @@
 // Positions one after another.
 ghost use mathlib.Core.Path.{_≡_};
-ghost use Prim.Native.Nat.{_+_, _%_};
 ghost use Rattle.layout.specs.Positions.{listed-positions};
 ghost use Rattle.layout.specs.WriteSets.{write-set};
 use super::Positions;

@@ -1,6 +1,6 @@
 // Which positions an entry is written to, and what a set of positions covers.
 ghost use mathlib.Core.Path.{_≡_};
-ghost use Prim.Native.Nat.{_+_, _%_, _<_, _≤_};
+ghost use Prim.Native.Nat.{_+_, _%_, _<_};
 ghost use lib.Dec.{leb};
 ghost use Rattle.layout.specs.WriteSets.{write-set, tally, marked, blocking, covers, member};
 use super::Sizes;
@@ -8,29 +8,6 @@ use ledgers::ids::EntryId;
 use ledgers::ids::Position;
 
 impl Sizes {
-    // How many positions an ensemble has.
-    pub fn ensemble(&self) -> u32
-        ensures value { λ r. ⌜ r ≡ now (self .entry) .ensemble ⌝ }
-        ensures few { λ r. ⌜ r ≤ 5 ⌝ }
-    {
-        self.ensemble
-    }
-
-    // How many positions an entry is written to.
-    pub fn write_quorum(&self) -> u32
-        ensures value { λ r. ⌜ r ≡ now (self .entry) .write ⌝ }
-        ensures few { λ r. ⌜ r ≤ 5 ⌝ }
-    {
-        self.write
-    }
-
-    // How many positions have to hold an entry before it is confirmed.
-    pub fn ack_quorum(&self) -> u32
-        ensures { λ r. ⌜ r ≡ now (self .entry) .ack ⌝ }
-    {
-        self.ack
-    }
-
     // How many positions of a write set leave no ack quorum among the others.
     pub fn blocking(&self) -> u32
         ensures { λ r. ⌜ r ≡ blocking (now (self .entry)) ⌝ }

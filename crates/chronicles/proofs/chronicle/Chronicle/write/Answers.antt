@@ -1,4 +1,4 @@
-use Prim.Native.Nat.{min, _+_, _-_, _<_, _≤_}
+use Prim.Native.Nat.{min, _+_, _-_, _<_}
 use mathlib.Core.Path.{_≡_, refl, sym, ap, _∙_}
 use mathlib.Core.List.{List, [], _∷_, _++_}
 use native.Mathlib.Omega.{arith}
@@ -10,7 +10,6 @@ use Rattle.std.specs.declared.option.Option.the-variants.{Some, None}
 use Rattle.ledgers.specs.Ids.{version-id}
 use Rattle.ledgers.specs.Tables.{renumbered}
 use Rattle.messages.specs.declared.metadata.Metadata.{Metadata}
-use Rattle.protocol.specs.Stores.{Store}
 use Rattle.chronicles.specs.Replays.{changed, replayed}
 use Rattle.chronicles.specs.declared.changes.Change.{Change}
 use Rattle.chronicles.proofs.chronicle.Chronicle.write.Needs as need

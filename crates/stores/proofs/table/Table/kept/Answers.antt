@@ -1,10 +1,9 @@
-use Prim.Native.Nat.{_-_, _<_, _≤_}
+use Prim.Native.Nat.{_-_, _≤_}
 use mathlib.Core.Path.{_≡_, sym, ap, subst, _∙_}
 use mathlib.Core.Bool.{true}
 use native.Mathlib.Omega.{arith}
-use lib.ListN.{length, getD}
+use lib.ListN.{getD}
 use Rattle.std.proofs.shelf.Lists.{getD-default}
-use Rattle.std.proofs.shelf.Ways.{tells}
 use Rattle.std.specs.declared.option.Option.the-variants.{None}
 use Rattle.ledgers.specs.Limits.{is-ledger}
 use Rattle.protocol.specs.Stores.{known}
