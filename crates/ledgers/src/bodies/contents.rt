@@ -23,9 +23,9 @@ impl Body {
     pub fn empty() -> Body
         ensures { λ r. ⌜ r ≡ body-of [] ⌝ }
     {
-        Body {
-            len: 0,
-            bytes: [0; MAX_BODY],
+        match Body::new(&[]) {
+            Some(body) => body,
+            None => unreachable(),
         }
     }
 
