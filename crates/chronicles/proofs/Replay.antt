@@ -96,7 +96,7 @@ pub kept-within : (cs : List Change) (l : ℕ) → known (numbered (replayed cs)
 kept-within cs l =
     ⊎-elim (λ (there : is-ledger l ≡ true). omega (arith, complete cs l there, tally-few (of-ledger l) cs))
     (λ (none : is-ledger l ≡ false).
-      omega (arith, ap (λ m. known m .version .0) (none-numbered (replayed cs) l None (length-replayed cs) none)))
+    omega (arith, ap (λ m. known m .version .0) (none-numbered (replayed cs) l None (length-replayed cs) none)))
     (cases-bool (is-ledger l))
 
 -- what is found of a ledger after one change more
