@@ -54,7 +54,8 @@ impl<'a> JournalBookie<'a> {
 
     // The bytes of its file: those laid out for its entries and fences.
     pub fn bytes(&self) -> &[u8]
-        ensures { λ r. ⌜ now r ≡ laid-out (length (now r)) (in-journal (now (self .entry)) .entries) (in-journal (now (self .entry)) .fences) ⌝ }
+        ensures whole { λ r. ⌜ now r ≡ file-of (now (self .entry)) ⌝ }
+        ensures laid { λ r. ⌜ now r ≡ laid-out (length (now r)) (in-journal (now (self .entry)) .entries) (in-journal (now (self .entry)) .fences) ⌝ }
     {
         &self.journal.bytes()[..]
     }
