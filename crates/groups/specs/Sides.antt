@@ -1,6 +1,5 @@
 -- A number of a pair is a number of the left group or of the right one: what stands there is the same, and what is
 -- put there is put into that group alone.
-use Prim.Native.Nat.{ℕ}
 use mathlib.Core.Path.{_≡_}
 use mathlib.Core.List.{List, _++_}
 use lib.Dec.{ltb}

@@ -6,7 +6,7 @@ use mathlib.Core.List.{List, [], _∷_}
 use native.Mathlib.Omega.{arith}
 use native.Mathlib.Nat.{pow-suc, pow-succ', div-div-eq-div-mul}
 use lib.Dec.{eqb}
-use lib.ListN.{length, set, getD, replicate}
+use lib.ListN.{length, set, getD}
 use lib.Bits.{bitOr, or-step, or-zero-r}
 use Rattle.journals.specs.Fences.{word, bits, flags}
 

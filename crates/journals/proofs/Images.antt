@@ -1,5 +1,5 @@
 -- Entries as records, and back.
-use Prim.Native.Nat.{ℕ, suc, min, _+_, _-_, _*_, _<_, _≤_}
+use Prim.Native.Nat.{ℕ, min, _+_, _-_, _*_, _<_, _≤_}
 use mathlib.Core.Path.{_≡_, _∙_, ap, sym, refl}
 use mathlib.Core.Bool.{true, _&&_}
 use mathlib.Core.List.{List, [], _∷_, _++_, append-assoc, append-nil}
@@ -17,7 +17,7 @@ use Rattle.ledgers.specs.Ids.{ledger-id, entry-id, lac-id}
 use Rattle.ledgers.proofs.Same.{length-content, made-of-content}
 use Rattle.messages.specs.declared.entries.Held.{Held}
 use Rattle.protocol.specs.Bookies.{add-fits}
-use Rattle.journals.specs.Numbers.{bytes2, bytes4, le2, le4}
+use Rattle.journals.specs.Numbers.{bytes4, le2, le4}
 use Rattle.journals.specs.Records.{record-image, images, record-of, records-of}
 use Rattle.journals.specs.Files.{all-fit}
 use Rattle.journals.proofs.Wholes.{whole2, whole4}

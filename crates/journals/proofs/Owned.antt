@@ -1,7 +1,5 @@
 -- Every journal bookie's file has the facts of its type, and so says what the bookie holds.
-use Prim.Native.Nat.{ℕ}
-use mathlib.Core.Path.{_≡_, _∙_, ap, sym, refl}
-use mathlib.Core.Bool.{Bool}
+use mathlib.Core.Path.{_≡_, refl}
 use lib.ListN.{length}
 use Rattle.protocol.specs.Bookies.{Bookie}
 use Rattle.journals.specs.declared.journal.JournalBookie.{JournalBookie}

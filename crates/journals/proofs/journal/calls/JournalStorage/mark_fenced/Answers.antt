@@ -1,8 +1,7 @@
-use mathlib.Core.Path.{_≡_, _∙_, ap, sym, refl}
+use mathlib.Core.Path.{_∙_, ap, sym, refl}
 use mathlib.Core.Bool.{true}
 use native.Mathlib.Omega.{arith}
 use Rattle.ledgers.specs.Tables.{renumbered}
-use Rattle.journals.specs.Numbers.{le4}
 use Rattle.journals.specs.Fences.{word, flags}
 use Rattle.journals.specs.Files.{fences-in}
 use Rattle.journals.proofs.Owned.{stood, said, fences-whole, bookie-same}
