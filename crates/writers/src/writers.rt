@@ -24,5 +24,7 @@ pub struct Writer {
     ghost small: { lac .0 + pending ≤ 10000 },
 }
 
+pub mod changing;
 pub mod hearing;
+pub mod putting;
 pub mod sending;
