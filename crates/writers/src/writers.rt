@@ -26,5 +26,6 @@ pub struct Writer {
 
 pub mod changing;
 pub mod hearing;
+pub mod making;
 pub mod putting;
 pub mod sending;
