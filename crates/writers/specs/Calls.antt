@@ -1,9 +1,5 @@
 -- What the calls leave, refusals included.
 use mathlib.Core.List.{List, []}
-use Rattle.std.specs.declared.option.Option.{Option}
-use Rattle.std.specs.declared.option.Option.the-variants.{Some, None}
-use Rattle.std.specs.declared.result.Result.{Result}
-use Rattle.std.specs.declared.result.Result.the-variants.{Ok, Err}
 use Rattle.ledgers.specs.declared.bodies.Body.{Body}
 use Rattle.ledgers.specs.declared.ids.LedgerId.{LedgerId}
 use Rattle.messages.specs.Faults.{when-ok}

@@ -62,7 +62,7 @@ impl Writer {
         self.change(ledger, position, bookie, ledgers, places, messages)
     }
 
-    // The same for a change that nothing stands against but the store.
+    // Changes the layout, where no question is left but the store's.
     fn change<S: Store>(
         &mut self,
         ledger: LedgerId,

@@ -1,10 +1,7 @@
 // What a writer makes of a reply: marks, confirmed entries, or a fence.
 ghost use mathlib.Core.Path.{_≡_};
-ghost use mathlib.Core.Bool.{_&&_, true};
 ghost use Prim.Native.Nat.{_+_, _≤_};
-ghost use lib.Dec.{ltb};
-ghost use lib.ListN.{getD, take};
-ghost use Rattle.messages.specs.Blanks.{no-add};
+ghost use lib.ListN.{take};
 ghost use Rattle.protocol.specs.Writers.{reply-after, is-writing, marked-adds, is-acknowledged, confirmed, with-front, fenced-writer};
 ghost use Rattle.writers.specs.Meaning.{meant, Row};
 ghost use Rattle.writers.specs.Fronts.{first-acknowledged, without-first};
@@ -82,7 +79,7 @@ impl Writer {
         self.layout.mark_write_set(e, bookie, &mut places[at].marks);
     }
 
-    // Confirms the first pending entry, and goes on while the next has an ack quorum of marks too.
+    // While the first pending entry has an ack quorum of marks, it is confirmed.
     fn confirm(&mut self, places: &mut [PendingAdd])
         requires { ⌜ Row (now self) (now places) ⌝ }
         ensures row { λ _. ⌜ Row (now (self .exit)) (now (places .exit)) ⌝ }

@@ -10,7 +10,6 @@ ghost use Rattle.writers.specs.Calls.{append-after, append-sent, resend-sent};
 ghost use Rattle.ledgers.specs.Ids.{entry-id};
 use super::MAX_PENDING;
 use super::Writer;
-use layout::sizes::Sizes;
 use ledgers::bodies::Body;
 use ledgers::ids::BookieId;
 use ledgers::ids::EntryId;

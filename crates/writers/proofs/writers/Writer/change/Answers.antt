@@ -1,5 +1,5 @@
 use Prim.Native.Nat.{suc}
-use mathlib.Core.Path.{_≡_, ap, _∙_}
+use mathlib.Core.Path.{ap, _∙_}
 use mathlib.Core.List.{[]}
 use Rattle.ledgers.specs.Ids.{lac-id}
 use Rattle.messages.specs.Waiting.{sent}

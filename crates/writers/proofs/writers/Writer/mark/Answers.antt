@@ -1,12 +1,9 @@
-use mathlib.Core.Path.{_≡_, _∙_, ap, sym}
+use mathlib.Core.Path.{_≡_, _∙_, sym}
 use mathlib.Core.Logic.{_⊎_, inl, inr}
 use native.Mathlib.Omega.{arith}
 use Prim.Native.Nat.{_+_, _-_, _≤_, _<_}
 use lib.ListN.{length, take, length-set}
 use Rattle.std.proofs.shelf.Lists.{drop-set-lt, length-take-le}
-use Rattle.layout.specs.Layouts.{fragment-of}
-use Rattle.layout.specs.WriteSets.{mark, write-set}
-use Rattle.messages.specs.declared.entries.PendingAdd.{PendingAdd}
 use Rattle.writers.proofs.Marks.{marked-none, marked-in}
 use Rattle.writers.proofs.writers.Writer.mark.Needs as need
 use Rattle.writers.proofs.writers.Writer.mark.Needs.{then-e-self·by·then-e-self, then-e-self·by·else-e-self·then-e-self-2}

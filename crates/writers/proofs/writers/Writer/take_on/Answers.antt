@@ -1,6 +1,6 @@
 use mathlib.Core.Path.{_≡_, _∙_, ap, sym}
 use native.Mathlib.Omega.{arith}
-use Prim.Native.Nat.{_+_, _<_, _≤_}
+use Prim.Native.Nat.{_+_, _<_}
 use lib.ListN.{length, take, drop, set}
 use Rattle.std.proofs.shelf.Lists.{length-take-le, take-more-set}
 use Rattle.std.proofs.shelf.Ways.{tells}
