@@ -1,0 +1,5 @@
+pub mod Meaning
+pub mod Beginnings
+pub mod Calls
+pub mod Fronts
+pub mod Puts
