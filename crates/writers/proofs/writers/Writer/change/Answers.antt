@@ -19,7 +19,7 @@ returns g c =
     let s = store (g .S·Store .ledgers) (g .S·Store .changes) (c .args .ledgers .now) in
     let r = c .change-to .result in
     let p = c .args .position in
-    let is = c .changed-layout .ensures in
+    let is = c .changed-layout .ensures .layout in
     let done = c .change-to .ensures in
     record {
       row = done .row;

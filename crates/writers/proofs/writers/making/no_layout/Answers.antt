@@ -12,5 +12,5 @@ returns c =
     let none = c .in-Some-new .ensures tt in
     let sizes : c .in-Some .sizes ≡ sizes-of 1 1 1 = cc in
     let bookies : c .in-Some-new .bookies ≡ list-of [] = cc in
-    c .first .ensures ∙ ap (λ s. first-layout s (c .in-Some-new .bookies .numbers)) sizes
+    c .first .ensures .layout ∙ ap (λ s. first-layout s (c .in-Some-new .bookies .numbers)) sizes
     ∙ ap (λ (b : BookieList). first-layout (sizes-of 1 1 1) (b .numbers)) bookies
