@@ -1,4 +1,6 @@
 // Direct calls to bookies, journals and groups with their answers, worked out by hand from the rules.
+#![tactic(auto)]
+
 #[cfg(test)]
 mod tests {
     use bookies::faults::fault_number;

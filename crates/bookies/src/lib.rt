@@ -4,6 +4,8 @@
 // meaning after it, refusals included, in the words of the protocol. Clients and groups are proved against these
 // contracts alone. `questions` answers the first three once for every make of bookie, over the few things that a make
 // says of where its entries and fences lie (`storage`). `memory` is the make over lent records.
+#![tactic(auto)]
+
 pub mod faults;
 pub mod fences;
 pub mod interface;

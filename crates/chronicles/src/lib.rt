@@ -4,5 +4,7 @@
 // many changes as it has places. Beyond what every store promises, each change that it ever accepted can still be read,
 // in the order in which they were made: version v of a ledger is the v-th change of that ledger. A call that is refused
 // notes nothing.
+#![tactic(auto)]
+
 pub mod changes;
 pub mod chronicle;

@@ -4,6 +4,8 @@
 // entries and fences, zeros behind the free end included: this is a fact of its type (`journal`), and `promises`
 // has that such bytes give back what they were laid out for. docs/JOURNAL.md has the file byte by byte. `bytes` has
 // its numbers, header and records, `files` the writes and the searches, `set_up` the way to a new journal bookie.
+#![tactic(auto)]
+
 pub mod bytes;
 pub mod fences;
 pub mod files;

@@ -6,6 +6,8 @@
 // and every `Layout` has one to eight fragments by its type, so that none of these calls asks anything of its caller.
 // Each is proved equal to its definition in `specs/`, and the layouts that are made here rise from entry 0 on as long as
 // changes do.
+#![tactic(auto)]
+
 pub mod fragments;
 pub mod marks;
 pub mod positions;

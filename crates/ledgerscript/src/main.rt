@@ -1,5 +1,7 @@
 // Plays a script and prints the answer to each line, and at the end how many lines there were and how many were refused.
 // The script is standard input, or the file that the argument names. All that matters is in the library `script`.
+#![tactic(auto)]
+
 use script::inputs::play_input;
 use std::alloc::Global;
 use std::io::{Read, Write};

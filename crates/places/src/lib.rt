@@ -3,6 +3,8 @@
 // A new record goes to the first free place, or is lost where none is free. Taking a record off closes the gap and blanks
 // the place that is vacated at the end. The functions take any kind of record, and any numbers: what is no list, or no
 // place of it, is left alone.
+#![tactic(auto)]
+
 ghost use Rattle.std.specs.Prelude.{◌≡◌, ◌+◌, ◌<◌, ◌≤◌, length, replicate, if◌then◌else◌, nat_lt, slice_index_or, slice_set};
 ghost use Rattle.places.specs.Lists.{closed, Removed};
 

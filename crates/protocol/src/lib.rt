@@ -4,6 +4,8 @@
 // on their way. `specs/Steps.antt` says of each of the thirteen steps what it asks, what it answers and what cluster
 // it leaves; `specs/Law.antt` says what holds after every list of steps: a closed ledger keeps its word. The functions
 // of `promises` name these statements in their contracts, so that they are proved.
+#![tactic(auto)]
+
 pub mod answers;
 pub mod faults;
 pub mod promises;

@@ -3,6 +3,8 @@
 // A `players::Player` takes a line at a time and writes its answer into bytes that the caller lends. `inputs::play_input`
 // plays a whole input, whatever bytes it has, and gives all that is printed for it. No cluster stands behind a script
 // yet, so that whatever a line names is not there.
+#![tactic(auto)]
+
 pub mod inputs;
 pub mod players;
 pub mod printing;

@@ -1,5 +1,7 @@
 // Lines and inputs with their answers, worked out by hand from the rules: what a contract cannot show, that the rules
 // are the ones that were wanted.
+#![tactic(auto)]
+
 #[cfg(test)]
 mod tests {
     use script::inputs::play_input;

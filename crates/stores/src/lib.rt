@@ -5,6 +5,8 @@
 // the recoverers of its ledger each learns that it has been overtaken. Trait `Store` states the three calls for every
 // store; `Table` is the one that keeps the present records in memory. Both answers and what is kept after a call are
 // the protocol's own definitions, for every argument: a call has no premise, and one that is refused alters nothing.
+#![tactic(auto)]
+
 pub mod calls;
 pub mod faults;
 pub mod questions;

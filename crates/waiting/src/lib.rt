@@ -2,6 +2,8 @@
 //
 // A message that is sent goes to the end, and is lost where no place is free: the memory that the list is given at first is
 // all that it has. Any message can be taken off, and those behind it move up.
+#![tactic(auto)]
+
 pub mod waiting_list;
 
 pub use waiting_list::WaitingList;

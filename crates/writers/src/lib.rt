@@ -5,6 +5,8 @@
 // `reply` marks the position that acknowledged one and confirms entries in order; `resend`, `change_ensemble` and `close`
 // do what they say. Each call answers, sends, puts and leaves what the protocol defines, and one that is refused alters
 // nothing.
+#![tactic(auto)]
+
 pub mod writers;
 
 pub use writers::Writer;
