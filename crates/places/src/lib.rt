@@ -31,7 +31,7 @@ pub fn append<T: Copy>(places: &mut [T], count: usize, item: T) -> usize
 
 // Takes the record at `at` off, if the list has one there.
 pub fn remove<T: Blank + Copy>(places: &mut [T], count: usize, at: usize) -> Option<T>
-    ensures { Removed empty places.old count at result places.new }
+    ensures { Removed T.empty places.old count at result places.new }
 {
     if at >= count || count > places.len() {
         return None;
@@ -43,7 +43,7 @@ pub fn remove<T: Blank + Copy>(places: &mut [T], count: usize, at: usize) -> Opt
 fn take_off<T: Blank + Copy>(places: &mut [T], count: usize, at: usize) -> T
     requires { (at < count) × (count ≤ length places.old) }
     ensures value { result ≡ slice_index_or places.old at result }
-    ensures after { places.new ≡ closed empty places.old count at }
+    ensures after { places.new ≡ closed T.empty places.old count at }
 {
     let taken = places[at];
     places[at] = T::blank();
@@ -53,7 +53,7 @@ fn take_off<T: Blank + Copy>(places: &mut [T], count: usize, at: usize) -> T
 
 // Blanks every place.
 pub fn clear<T: Blank + Copy>(places: &mut [T])
-    ensures { places.new ≡ replicate (length places.old) empty }
+    ensures { places.new ≡ replicate (length places.old) T.empty }
 {
     for i in 0..places.len() {
         places[i] = T::blank();

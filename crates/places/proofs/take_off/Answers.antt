@@ -8,6 +8,6 @@ returns g c =
     record {
       value = search rules;
       after =
-          closes c.args.places.now c.rotate-left.new.self c.blank.result c.args.count c.args.at (search rules) (search rules) c.rotate-left.ensures.after
+          closes c.args.places.now c.rotate_left.new.self c.blank.result c.args.count c.args.at (search rules) (search rules) c.rotate_left.ensures.after
           ∙ ap (λ b. closed b c.args.places.now c.args.count c.args.at) c.blank.ensures;
     }

@@ -13,7 +13,7 @@ write-header-requires c =
 pub invariant-of-result : goal.invariant-of-result
 invariant-of-result c =
     let new = (new_written c.args.file.now _ _ (search rules) c.clear.ensures c.write-header.ensures).0.keeps in
-    (new.least, (new.most, (new.room, (new.sound, (new.laid, tt)))))
+    record { least = new.least; most = new.most; room = new.room; sound = new.sound; laid = new.laid }
 
 pub returns : goal.returns
 returns c =

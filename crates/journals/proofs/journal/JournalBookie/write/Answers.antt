@@ -18,7 +18,7 @@ pub invariant-of-self : goal.invariant-of-self
 invariant-of-self c =
     let s = c.args.self.now in
     let kept = (entry_kept _ (stood s) c.args.held _ _ _ _ (search rules) (omega arith) c.append.ensures (omega arith) (omega arith) (omega arith)).keeps in
-    (kept.least, (kept.most, (kept.room, (kept.sound, (kept.laid, tt)))))
+    record { least = kept.least; most = kept.most; room = kept.room; sound = kept.sound; laid = kept.laid }
 
 pub returns : goal.returns
 returns c =

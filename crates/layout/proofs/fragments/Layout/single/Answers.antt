@@ -12,7 +12,7 @@ returns c =
     let s = c.args.sizes in
     let is =
     layout_same _ (first_layout s c.args.bookies.now.numbers) refl
-    (ap (λ (f : Fragment). record { first = f.first; bookies = c.by-position.result } ∷ replicate 7 f) c.blank-fragments.ensures
-    ∙ ap (λ bs. (first_layout s bs).fragments) c.by-position.ensures)
+    (ap (λ (f : Fragment). record { first = f.first; bookies = c.by_position.result } ∷ replicate 7 f) c.blank-fragments.ensures
+    ∙ ap (λ bs. (first_layout s bs).fragments) c.by_position.ensures)
     refl in
     record { layout = is; rising = subst (λ (y : Layout). Rising y) (sym is) (first_rises s c.args.bookies.now.numbers) }

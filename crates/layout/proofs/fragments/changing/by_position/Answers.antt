@@ -14,10 +14,10 @@ numbers_padded b few =
     let same : list_of (listed b) ≡ b = cc in
     ap (λ (x : BookieList). x.numbers) same
 
-pub returns-then-listed-le-MAX-ENSEMBLE : goal.returns-then-listed-le-MAX-ENSEMBLE
-returns-then-listed-le-MAX-ENSEMBLE c =
+pub returns-then-listed-le-MAX_ENSEMBLE : goal.returns-then-listed-le-MAX_ENSEMBLE
+returns-then-listed-le-MAX_ENSEMBLE c =
     let b = c.args.bookies.now in
-    let xs = c.as-slice-listed.result.now in
-    let is : xs ≡ listed b = c.as-slice-listed.ensures in
-    filled_in 5 xs c.copy-from-slice.new.self (length xs - 0) (omega arith) (omega arith) c.copy-from-slice.ensures.after
+    let xs = c.as_slice-listed.result.now in
+    let is : xs ≡ listed b = c.as_slice-listed.ensures in
+    filled_in 5 xs c.copy_from_slice.new.self (length xs - 0) (omega arith) (omega arith) c.copy_from_slice.ensures.after
     ∙ ap (padded 5) is ∙ numbers_padded b (omega (arith, ap length is))

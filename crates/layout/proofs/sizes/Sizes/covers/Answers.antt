@@ -3,8 +3,8 @@ use Rattle.layout.specs.WriteSets.{marked}
 use Rattle.layout.proofs.Turns.{covers_more, covers_not}
 use Rattle.layout.proofs.sizes.Sizes.covers.Goals as goal
 
-pub returns-then-not-is-blocked : goal.returns-then-not-is-blocked
-returns-then-not-is-blocked c =
+pub returns-then-not-is_blocked : goal.returns-then-not-is_blocked
+returns-then-not-is_blocked c =
     let s = c.args.self.now in
     sym (covers_not s (marked c.args.marks.now) s.ensemble c.loop-e.e (omega arith) (cc))
 

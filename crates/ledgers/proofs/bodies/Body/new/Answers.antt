@@ -6,17 +6,17 @@ use Rattle.ledgers.proofs.Filled.{filled_in, stays_padded}
 use Rattle.ledgers.proofs.Same.{body_same}
 use Rattle.ledgers.proofs.bodies.Body.new.Goals as goal
 
-pub invariant-of-result : goal.invariant-of-result
-invariant-of-result c =
+pub invariant_of-result : goal.invariant_of-result
+invariant_of-result c =
     let content = c.args.content.now in
     let short : length content ≤ 40 = omega arith in
-    let filled = filled_in 40 content c.copy-from-slice.new.self (length content - 0) short (omega arith) c.copy-from-slice.ensures.after in
-    (ap length filled ∙ length_padded 40 content, (short, (stays_padded 40 content _ (length content) (omega arith) filled, tt)))
+    let filled = filled_in 40 content c.copy_from_slice.new.self (length content - 0) short (omega arith) c.copy_from_slice.ensures.after in
+    record { whole = ap length filled ∙ length_padded 40 content; short = short; padded = stays_padded 40 content _ (length content) (omega arith) filled }
 
 pub returns : goal.returns
 returns c =
     let content = c.args.content.now in
     let short : length content ≤ 40 = omega arith in
-    let filled = filled_in 40 content c.copy-from-slice.new.self (length content - 0) short (omega arith) c.copy-from-slice.ensures.after in
+    let filled = filled_in 40 content c.copy_from_slice.new.self (length content - 0) short (omega arith) c.copy_from_slice.ensures.after in
     let least : length content ≡ min 40 (length content) = omega arith in
     ap Some (body_same _ (body_of content) least filled) ∙ sym (cond-true _ _ _ (le-leb (length content) 40 short))

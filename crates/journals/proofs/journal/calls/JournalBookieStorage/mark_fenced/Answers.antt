@@ -15,7 +15,7 @@ unfolding fences_in
 invariant-of-self c =
     let bits = c.with-fence-fences.ensures ∙ ap (λ w. word (renumbered (flags w) c.args.ledger.0 true)) c.number.ensures in
     let kept = (fence_kept _ (stood c.args.self.now) _ c.args.ledger.0 _ _ _ c.write-header.ensures (omega arith) (omega arith) bits).keeps in
-    (kept.least, (kept.most, (kept.room, (kept.sound, (kept.laid, tt)))))
+    record { least = kept.least; most = kept.most; room = kept.room; sound = kept.sound; laid = kept.laid }
 
 pub returns : goal.returns
 unfolding fences_in
