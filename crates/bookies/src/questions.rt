@@ -44,8 +44,8 @@ pub fn add<S: Storage>(
     body: &[u8],
     recovery: bool,
 ) -> Result<(), BookieFault>
-    ensures answer { result ≡ add_made_answer (made_body body.now) (means storage.old) ledger entry lac recovery }
-    ensures after { means storage.new ≡ add_made_after (made_body body.now) (means storage.old) ledger entry lac recovery }
+    ensures answer { result ≡ add_made_answer (made_body body.now) (S.means storage.old) ledger entry lac recovery }
+    ensures after { S.means storage.new ≡ add_made_after (made_body body.now) (S.means storage.old) ledger entry lac recovery }
 {
     let Some(body) = Body::new(body) else {
         return Err(BookieFault::Range);
@@ -84,8 +84,8 @@ pub fn add<S: Storage>(
 }
 
 pub fn fence<S: Storage>(storage: &mut S, ledger: LedgerId) -> Result<Lac, BookieFault>
-    ensures answer { result ≡ fence_answer (means storage.old) ledger }
-    ensures after { means storage.new ≡ fence_after (means storage.old) ledger }
+    ensures answer { result ≡ fence_answer (S.means storage.old) ledger }
+    ensures after { S.means storage.new ≡ fence_after (S.means storage.old) ledger }
 {
     if !ledger_fits(ledger) {
         return Err(BookieFault::Range);
@@ -102,7 +102,7 @@ pub fn read<S: Storage>(
     ledger: LedgerId,
     entry: EntryId,
 ) -> Result<Option<Held>, BookieFault>
-    ensures { result ≡ read_answer (means storage.now) ledger entry }
+    ensures { result ≡ read_answer (S.means storage.now) ledger entry }
 {
     if !entry_fits(ledger, entry) {
         return Err(BookieFault::Range);

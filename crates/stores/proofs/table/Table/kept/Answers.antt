@@ -6,8 +6,8 @@ use Rattle.stores.proofs.Rows.{row_of, has_row, none_numbered}
 use Rattle.stores.proofs.Within.{version_within}
 use Rattle.stores.proofs.table.Table.kept.Goals as goal
 
-pub returns-then-is-ledger : goal.returns-then-is-ledger
-returns-then-is-ledger c =
+pub returns-then-is_ledger : goal.returns-then-is_ledger
+returns-then-is_ledger c =
     let t = c.args.self.now in
     let l = c.args.ledger.0 in
     let there : is_ledger l ≡ true = cc in
@@ -17,7 +17,7 @@ returns-then-is-ledger c =
       version = subst (λ r. (known r).version.0 ≤ t.made) (sym read) (version_within t.made t.ledgers (l - 1) t.counted);
     }
 
-pub returns-else-is-ledger : goal.returns-else-is-ledger
-returns-else-is-ledger c =
+pub returns-else-is_ledger : goal.returns-else-is_ledger
+returns-else-is_ledger c =
     let t = c.args.self.now in
     record { value = sym (none_numbered t.ledgers c.args.ledger.0 None t.sixteen (cc)); version = omega arith }
