@@ -2,4 +2,4 @@ use Rattle.lines.proofs.Law.{lines_keep_steps}
 use Rattle.lines.proofs.reading.read_line.Goals as goal
 
 pub returns : goal.returns
-returns c = record { value = c.read-ended.ensures; law = lines_keep_steps }
+returns c = record { value = c.read_ended.ensures; law = lines_keep_steps }

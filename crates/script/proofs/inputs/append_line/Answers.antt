@@ -5,10 +5,10 @@ use Rattle.script.proofs.inputs.append_line.Goals as goal
 
 pub returns : goal.returns
 returns c =
-    let said = c.print-line-length.ensures in
+    let said = c.print_line-length.ensures in
     let before = vec_items c.args.output.now in
-    let printed = front_over (line_bytes c.args.player.now c.args.line.now) (replicate 128 0) c.print-line-length.new.out c.print-line-length.result said.end said.out in
+    let printed = front_over (line_bytes c.args.player.now c.args.line.now) (replicate 128 0) c.print_line-length.new.out c.print_line-length.result said.end said.out in
     record {
       player = said.player;
-      output = c.extend-from-slice.ensures.items ∙ ap (λ t. cond (is_ok c.extend-from-slice.result) (before ++ t) before) printed;
+      output = c.extend_from_slice.ensures.items ∙ ap (λ t. cond (is_ok c.extend_from_slice.result) (before ++ t) before) printed;
     }

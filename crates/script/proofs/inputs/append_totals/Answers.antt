@@ -5,7 +5,7 @@ use Rattle.script.proofs.inputs.append_totals.Goals as goal
 
 pub returns : goal.returns
 returns c =
-    let said = c.print-totals-length.ensures in
+    let said = c.print_totals-length.ensures in
     let before = vec_items c.args.output.now in
-    let printed = front_over (totals_bytes c.args.player.now) (replicate 128 0) c.print-totals-length.new.out c.print-totals-length.result said.end said.after in
-    c.extend-from-slice.ensures.items ∙ ap (λ t. cond (is_ok c.extend-from-slice.result) (before ++ t) before) printed
+    let printed = front_over (totals_bytes c.args.player.now) (replicate 128 0) c.print_totals-length.new.out c.print_totals-length.result said.end said.after in
+    c.extend_from_slice.ensures.items ∙ ap (λ t. cond (is_ok c.extend_from_slice.result) (before ++ t) before) printed
