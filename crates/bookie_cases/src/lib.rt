@@ -20,6 +20,15 @@ mod tests {
 
     const LONG: [u8; 41] = [32; 41];
 
+    // For what works on a bookie without the runtime, as who is lent one by `with_journal`.
+    fn check(holds: bool) -> Result<(), Fail> {
+        if holds {
+            Ok(())
+        } else {
+            Err(Fail::new("a bookie answers otherwise"))
+        }
+    }
+
     // 0 for a good answer, and else the refusal's number.
     fn number(answer: Result<(), BookieFault>) -> u32 {
         match answer {
@@ -41,32 +50,30 @@ mod tests {
 
     // Numbers out of range, in every make of bookie.
     fn out_of_range<B: Bookie>(bookie: &mut B) -> Result<(), Fail> {
-        assert!(add(bookie, 0, 0, 0, b"oak") == 20);
-        assert!(add(bookie, 17, 0, 0, b"oak") == 20);
-        assert!(add(bookie, 4294967295, 0, 0, b"oak") == 20);
-        assert!(add(bookie, 1, 10000, 0, b"oak") == 20);
-        assert!(add(bookie, 1, 5, 6, b"oak") == 20);
-        assert!(add(bookie, 1, 0, 0, &LONG) == 20);
-        assert!(bookie.fence(LedgerId(17)).is_err());
-        assert!(bookie.read(LedgerId(0), EntryId(0)).is_err());
-        Ok(())
+        check(add(bookie, 0, 0, 0, b"oak") == 20)?;
+        check(add(bookie, 17, 0, 0, b"oak") == 20)?;
+        check(add(bookie, 4294967295, 0, 0, b"oak") == 20)?;
+        check(add(bookie, 1, 10000, 0, b"oak") == 20)?;
+        check(add(bookie, 1, 5, 6, b"oak") == 20)?;
+        check(add(bookie, 1, 0, 0, &LONG) == 20)?;
+        check(bookie.fence(LedgerId(17)).is_err())?;
+        check(bookie.read(LedgerId(0), EntryId(0)).is_err())
     }
 
     // The questions in their order, in a new bookie with space for one entry.
     fn in_order<B: Bookie>(bookie: &mut B) -> Result<(), Fail> {
-        assert!(add(bookie, 1, 0, 0, b"oak") == 0);
-        assert!(add(bookie, 1, 0, 0, b"oak") == 0);
-        assert!(add(bookie, 1, 0, 0, b"ash") == 23);
-        assert!(add(bookie, 1, 1, 1, b"elm") == 24);
-        assert!(bookie.fence(LedgerId(1)).is_ok());
-        assert!(add(bookie, 1, 0, 0, b"oak") == 22);
-        assert!(number(bookie.add(LedgerId(1), EntryId(0), Lac(0), b"oak", true)) == 0);
+        check(add(bookie, 1, 0, 0, b"oak") == 0)?;
+        check(add(bookie, 1, 0, 0, b"oak") == 0)?;
+        check(add(bookie, 1, 0, 0, b"ash") == 23)?;
+        check(add(bookie, 1, 1, 1, b"elm") == 24)?;
+        check(bookie.fence(LedgerId(1)).is_ok())?;
+        check(add(bookie, 1, 0, 0, b"oak") == 22)?;
+        check(number(bookie.add(LedgerId(1), EntryId(0), Lac(0), b"oak", true)) == 0)?;
         bookie.stop();
-        assert!(add(bookie, 1, 0, 0, b"oak") == 21);
-        assert!(add(bookie, 17, 0, 0, b"oak") == 20);
+        check(add(bookie, 1, 0, 0, b"oak") == 21)?;
+        check(add(bookie, 17, 0, 0, b"oak") == 20)?;
         bookie.start();
-        assert!(add(bookie, 1, 0, 0, b"oak") == 22);
-        Ok(())
+        check(add(bookie, 1, 0, 0, b"oak") == 22)
     }
 
     fn blank() -> Held {
@@ -140,14 +147,13 @@ mod tests {
         ghost promises = { λ _ _ _. Unit {0} };
 
         fn work(self, bookie: &mut JournalBookie<'_>) -> Result<(), Fail> {
-            assert!(add(bookie, 16, 300, 259, b"oak") == 0);
-            assert!(bookie.fence(LedgerId(1)).is_ok());
-            assert!(bookie.fence(LedgerId(16)).is_ok());
+            check(add(bookie, 16, 300, 259, b"oak") == 0)?;
+            check(bookie.fence(LedgerId(1)).is_ok())?;
+            check(bookie.fence(LedgerId(16)).is_ok())?;
             let mut expected = [0u8; 136];
             expected[0..16].copy_from_slice(&[1, 0, 0, 0, 84, 0, 0, 0, 1, 128, 0, 0, 136, 0, 0, 0]);
             expected[32..47].copy_from_slice(&[16, 0, 3, 0, 44, 1, 0, 0, 3, 1, 0, 0, 111, 97, 107]);
-            assert!(bookie.bytes() == &expected[..]);
-            Ok(())
+            check(bookie.bytes() == &expected[..])
         }
     }
 
