@@ -9,8 +9,8 @@ use Rattle.chronicles.specs.Replays.{replayed}
 use Rattle.chronicles.proofs.Replay.{length_replayed, kept_within, found_none, found_more}
 use Rattle.chronicles.proofs.changes.latest.Goals as goal
 
-pub returns-then-not-is-ledger : goal.returns-then-not-is-ledger
-returns-then-not-is-ledger c =
+pub returns-then-not-is_ledger : goal.returns-then-not-is_ledger
+returns-then-not-is_ledger c =
     let cs = c.args.changes.now in sym (none_numbered (replayed cs) c.args.ledger.0 None (length_replayed cs) (cc))
 
 pub loop-change-init : goal.loop-change-init

@@ -7,4 +7,8 @@ invariant_of-self c =
     let t = c.args.self.now in
     let i = c.args.ledger.0 - 1 in
     let m = c.args.metadata in
-    (length-set t.ledgers i (Some m) ∙ t.sixteen, (omega arith, (within_set t.made t.ledgers i m t.counted c.requires.version, tt)))
+    record {
+      sixteen = length-set t.ledgers i (Some m) ∙ t.sixteen;
+      limited = omega arith;
+      counted = within_set t.made t.ledgers i m t.counted c.requires.version;
+    }

@@ -17,7 +17,7 @@ returns g c =
     let s = store g.S.Store.ledgers g.S.Store.changes c.args.ledgers.now in
     let r = c.change_to.result in
     let p = c.args.position in
-    let is = c.changed_layout.ensures.layout in
+    let is = c.changed-layout.ensures.layout in
     let done = c.change_to.ensures in
     record {
       row = done.row;

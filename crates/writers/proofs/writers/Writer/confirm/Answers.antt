@@ -12,8 +12,8 @@ loop-self-preserved c =
     let xs = c.loop-self.places in
     let first = and_parts _ _ (sym c.loop-self-test.ensures) in
     let goes = confirmed_goes s.layout s.lac.0 xs no_add s.pending (ltb-true 0 s.pending first.0) (omega (arith, c.loop-self.invariant.0.0)) first.1 in (
-      c.confirm-first.ensures.row,
-      ap (λ (w : Writer). with_front w (confirmed w.layout w.lac w.pending)) c.confirm-first.ensures.after
+      c.confirm_first.ensures.row,
+      ap (λ (w : Writer). with_front w (confirmed w.layout w.lac w.pending)) c.confirm_first.ensures.after
           ∙ ap (with_front (meant s xs)) (sym goes) ∙ c.loop-self.invariant.1,
     )
 

@@ -26,6 +26,6 @@ returns c =
     record {
       row = (length-set _ _ _ ∙ c.requires.0, drop-set-lt _ _ _ _ there ∙ c.requires.1);
       after =
-          marked_in y e b w.lac.0 w.pending c.args.places.now c.index-places-at.result c.mark-write-set.new.marks (omega arith) there (omega (arith, c.requires.0))
-          c.mark-write-set.ensures;
+          marked_in y e b w.lac.0 w.pending c.args.places.now c.index-places-at.result c.mark_write_set.new.marks (omega arith) there (omega (arith, c.requires.0))
+          c.mark_write_set.ensures;
     }

@@ -15,7 +15,7 @@ loop-i-init c =
 pub loop-i-preserved : goal.loop-i-preserved
 loop-i-preserved c =
     let w = c.args.self.now in
-    let width = c.write-quorum-i-end.ensures.value ∙ ap (λ (s : Sizes). s.write) c.sizes-sizes.ensures in
+    let width = c.write_quorum-i-end.ensures.value ∙ ap (λ (s : Sizes). s.write) c.sizes-sizes.ensures in
     let within : c.loop-i.i < w.layout.sizes.write = omega arith in
     let more = left_more (λ ps. sent (queue c.loop-i.messages) (adds_to w.layout c.args.ledger c.args.e.0 w.lac.0 c.args.add.now ps)) w.layout.sizes.write c.args.e.0 w.layout.sizes.ensemble c.loop-i.i within in
     let here = c.position-p.ensures.value in
@@ -25,7 +25,7 @@ loop-i-preserved c =
 pub returns : goal.returns
 returns c =
     let w = c.args.self.now in
-    let width = c.write-quorum-i-end.ensures.value ∙ ap (λ (s : Sizes). s.write) c.sizes-sizes.ensures in
+    let width = c.write_quorum-i-end.ensures.value ∙ ap (λ (s : Sizes). s.write) c.sizes-sizes.ensures in
     let past : w.layout.sizes.write ≤ c.loop-i.i = omega arith in
     let none = left_none (λ ps. sent (queue c.loop-i.messages) (adds_to w.layout c.args.ledger c.args.e.0 w.lac.0 c.args.add.now ps)) w.layout.sizes.write c.args.e.0 w.layout.sizes.ensemble c.loop-i.i past in
     cc

@@ -10,7 +10,7 @@ loop-k-preserved c =
     let w = c.args.self.now in
     let xs = c.args.places.now in
     let k = c.loop-k.k in
-    ap (λ q. sent q (all_adds w.layout c.args.ledger w.lac.0 (w.lac.0 + (k + 1)) (drop (k + 1) (take w.pending xs)))) c.send-adds.ensures
+    ap (λ q. sent q (all_adds w.layout c.args.ledger w.lac.0 (w.lac.0 + (k + 1)) (drop (k + 1) (take w.pending xs)))) c.send_adds.ensures
     ∙ all_more w.layout c.args.ledger w.lac.0 w.lac.0 xs w.pending (omega arith) (queue c.loop-k.messages) k c.index-places-k.result (omega arith) c.index-places-k.is
     ∙ c.loop-k.invariant
 

@@ -31,6 +31,6 @@ returns c =
           ap (with_pending (meant s xs) s.lac.0)
           (ap (take n) e.after ∙ ap (λ k. take k (set xs s.pending add)) more ∙ take_more_set xs s.pending add room);
       sends =
-          c.send-adds.ensures
+          c.send_adds.ensures
           ∙ ap (λ k. sent (queue c.args.messages.now) (adds s.layout c.args.ledger (s.lac.0 + k) s.lac.0 add)) (sym t);
     }
