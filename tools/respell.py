@@ -1,5 +1,5 @@
 #!/usr/bin/env python3
-"""Writes the repository's own definitions, lemmas, fields and constructors in snake case.
+"""Writes the repository's own definitions, lemmas, fields and constructors in snake case, types in camel case.
 
 usage: python3 tools/respell.py [--list]     at the top of the repository, once, right after the kit's port.py
 
@@ -43,8 +43,14 @@ def names():
     return {n for n in own - others if "-" in n}
 
 
+def respelled(name):
+    if name[0].isupper():
+        return "".join(w[0].upper() + w[1:] for w in name.split("-"))
+    return name.replace("-", "_")
+
+
 def main():
-    found = {n: n.replace("-", "_") for n in names()}
+    found = {n: respelled(n) for n in names()}
     if "--list" in sys.argv:
         print("\n".join(f"{a} {b}" for a, b in sorted(found.items())))
         return

@@ -7,7 +7,7 @@ use Rattle.ledgers.specs.Ids.{bookie_id}
 use Rattle.ledgers.specs.declared.ids.BookieId.{BookieId}
 use Rattle.protocol.specs.Bookies.{Bookie, no_bookie}
 use Rattle.groups.specs.Members.{beyond}
-use Rattle.groups.specs.Sides.{Same_place}
+use Rattle.groups.specs.Sides.{SamePlace}
 
 -- what the answer of `past` says of the number
 pub within : (xs : List Bookie) (b : BookieId) → None ≡ beyond xs b → b.0 < length xs
@@ -27,7 +27,7 @@ below_right b m k n high less =
     (cases_lt n k)
 
 module _ (xs ys : List Bookie) (b : BookieId) where
-  pub left_place : b.0 < length xs → Same_place (xs ++ ys) b xs b (λ zs. zs ++ ys)
+  pub left_place : b.0 < length xs → SamePlace (xs ++ ys) b xs b (λ zs. zs ++ ys)
   left_place lt =
       let long = length-append xs ys in (
         lt-ltb b.0 (length (xs ++ ys)) (omega arith) ∙ sym (lt-ltb b.0 (length xs) lt),
@@ -43,7 +43,7 @@ module _ (xs ys : List Bookie) (b : BookieId) where
     test : ltb b.0 (length (xs ++ ys)) ≡ ltb n.0 (length ys)
     test = ap (ltb b.0) (length-append xs ys) ∙ below_right b.0 (length xs) (length ys) n.0 p.high p.less
 
-    pub right_place : Same_place (xs ++ ys) b ys n (λ zs. xs ++ zs)
+    pub right_place : SamePlace (xs ++ ys) b ys n (λ zs. xs ++ zs)
     right_place =
         let same : length xs ≡ length xs = omega arith in (
           test,

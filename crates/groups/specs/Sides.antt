@@ -7,12 +7,12 @@ use Rattle.groups.specs.declared.pair.Side.{Side}
 use Rattle.groups.specs.declared.pair.Side.TheVariants.{Left, Right}
 
 -- number n of the part is number b of the whole, where back puts the part back into the whole
-abbrev pub Same_place : List Bookie → BookieId → List Bookie → BookieId → (List Bookie → List Bookie) → Type 0
-Same_place whole b part n back =
+abbrev pub SamePlace : List Bookie → BookieId → List Bookie → BookieId → (List Bookie → List Bookie) → Type 0
+SamePlace whole b part n back =
     (nat_lt b.0 (length whole) ≡ nat_lt n.0 (length part))
     × ((slice_index_or whole b.0 no_bookie ≡ slice_index_or part n.0 no_bookie)
     × ((x : Bookie) → slice_set whole b.0 x ≡ back (slice_set part n.0 x)))
 
 abbrev pub Sided : List Bookie → List Bookie → BookieId → Side → Type 0
-Sided xs ys b (Left n) = Same_place (xs ++ ys) b xs n (λ zs. zs ++ ys)
-Sided xs ys b (Right n) = Same_place (xs ++ ys) b ys n (λ zs. xs ++ zs)
+Sided xs ys b (Left n) = SamePlace (xs ++ ys) b xs n (λ zs. zs ++ ys)
+Sided xs ys b (Right n) = SamePlace (xs ++ ys) b ys n (λ zs. xs ++ zs)

@@ -9,7 +9,7 @@ pub const MAX_BOOKIES: u32 = 8;
 
 // Whether the group has 1 to 8 bookies.
 pub fn group_fits<G: Group>(group: &G) -> bool
-    ensures { result ≡ group_fits (members group.now) }
+    ensures { result ≡ group_fits (G.members group.now) }
 {
     group.past(BookieId(0)).is_none() && group.past(BookieId(MAX_BOOKIES)).is_some()
 }

@@ -5,7 +5,7 @@ use Rattle.journals.specs.declared.journal.JournalBookie.{JournalBookie}
 use Rattle.journals.specs.Numbers.{le4}
 use Rattle.journals.specs.Fences.{word, flags}
 use Rattle.journals.specs.Files.{entries_in, fences_in, laid_out}
-use Rattle.journals.specs.Journal.{file_of, Reads_back}
+use Rattle.journals.specs.Journal.{file_of, ReadsBack}
 use Rattle.journals.proofs.Laid.{Stands, Says, own, says, fit_from}
 
 pub stood : (s : JournalBookie) → Stands (file_of s)
@@ -25,6 +25,6 @@ pub bookie_same : (a b : Bookie) → a.up ≡ b.up → a.entries ≡ b.entries �
 bookie_same a b u es fs n = λ i. record { up = u i; entries = es i; fences = fs i; space = n i }
 
 -- what is laid out is read back
-pub reads_back : Reads_back
+pub reads_back : ReadsBack
 reads_back size es fs fit =
     let s = says size es fs (fit_from size es fs fit) (laid_out size es fs) refl in (s.entries, (s.fences, s.space))

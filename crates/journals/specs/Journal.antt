@@ -18,8 +18,8 @@ in_journal s =
     }
 
 -- what is laid out is read back: entries, fences and space
-abbrev pub Reads_back : Type 0
-Reads_back =
+abbrev pub ReadsBack : Type 0
+ReadsBack =
     (size : ℕ) (es : List Held) (fences : List Bool) → fits size es fences ≡ true
     → (entries_in (laid_out size es fences) ≡ es)
     × ((fences_in (laid_out size es fences) ≡ fences) × (space_in (laid_out size es fences) ≡ space_behind size es))

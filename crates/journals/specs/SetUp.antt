@@ -9,6 +9,6 @@ abbrev pub set_up_number : SetUpFault → ℕ
 set_up_number Size = 15
 
 -- an answer where the size fits, as promised of a new bookie with all the space; and else a refusal
-abbrev pub Set_up : {A : Type 0} → (Bookie → A → Type 0) → ℕ → Result A SetUpFault → Type 0
-Set_up promised size (Ok a) = (size_fits size ≡ true) × promised (new_bookie (space_behind size [])) a
-Set_up promised size (Err Size) = size_fits size ≡ false
+abbrev pub SetUp : {A : Type 0} → (Bookie → A → Type 0) → ℕ → Result A SetUpFault → Type 0
+SetUp promised size (Ok a) = (size_fits size ≡ true) × promised (new_bookie (space_behind size [])) a
+SetUp promised size (Err Size) = size_fits size ≡ false

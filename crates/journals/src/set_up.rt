@@ -3,7 +3,7 @@ ghost use Rattle.std.specs.Prelude.{◌≡◌, false, length};
 ghost use Rattle.protocol.specs.Bookies.{Bookie};
 ghost use Rattle.journals.specs.Files.{size_fits};
 ghost use Rattle.journals.specs.Journal.{in_journal};
-ghost use Rattle.journals.specs.SetUp.{Set_up, set_up_number};
+ghost use Rattle.journals.specs.SetUp.{SetUp, set_up_number};
 
 use crate::journal::JournalBookie;
 
@@ -46,7 +46,7 @@ pub fn with_journal<U: JournalUser + Drop>(
     file: &mut [u8],
     user: U,
 ) -> Result<U::Answer, SetUpFault>
-    ensures answer { Set_up (promises user) (length file.old) result }
+    ensures answer { SetUp (U.promises user) (length file.old) result }
     ensures refused { size_fits (length file.old) ≡ false → file.new ≡ file.old }
 {
     if file.len() < MIN_JOURNAL_BYTES || file.len() > MAX_JOURNAL_BYTES {

@@ -99,8 +99,8 @@ mod tests {
         let length = player.play_line(b"G 4\n", &mut out).ok().ok_or("no room")?;
         assert_eq!(rt; length, 8);
         let (front, behind) = out.split_at(8);
-        assert!(rt; front == b"1 G 4 1\n");
-        assert!(rt; behind == [7; 122]);
+        assert!(rt; front == b"1 G 4 1\n".as_slice());
+        assert!(rt; behind == [7; 122].as_slice());
         Ok(())
     }
 

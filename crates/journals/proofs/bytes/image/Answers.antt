@@ -4,5 +4,5 @@ use Rattle.journals.proofs.bytes.image.Goals as goal
 
 pub returns : goal.returns
 returns c =
-    image_is c.args.held.now c.to-le-bytes-l.ensures c.to-le-bytes-b.ensures c.to-le-bytes-e.ensures
-    c.to-le-bytes-c.ensures (c.copy-from-slice.ensures.after ∙ c.as-slice-body.ensures) c.as-slice-body.ensures
+    image_is c.args.held.now c.to_le_bytes-l.ensures c.to_le_bytes-b.ensures c.to_le_bytes-e.ensures
+    c.to_le_bytes-c.ensures (c.copy_from_slice.ensures.after ∙ c.as_slice-body.ensures) c.as_slice-body.ensures

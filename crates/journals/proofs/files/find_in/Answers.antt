@@ -3,8 +3,8 @@ use Rattle.std.proofs.lemmas.Bool.Decides.{nat_tests}
 use Rattle.journals.proofs.Parts.{records_step, part_is}
 use Rattle.journals.proofs.files.find_in.Goals as goal
 
-pub record-in-held-requires : goal.record-in-held-requires
-record-in-held-requires c =
+pub record_in-held-requires : goal.record_in-held-requires
+record_in-held-requires c =
     let p = part_is c.args.records.now c.loop-i.i in
     let l : length (take 52 (drop (52 * c.loop-i.i) c.args.records.now)) ≡ 52 = simp (length-take, length-drop) (omega arith) in
     grind arith

@@ -7,5 +7,5 @@ returns c =
     record {
       long = search rules;
       after =
-          put_is c.args.self.now.file.now c.args.at _ _ (c.copy-from-slice.ensures.after ∙ c.image.ensures);
+          put_is c.args.self.now.file.now c.args.at _ _ (c.copy_from_slice.ensures.after ∙ c.image.ensures);
     }

@@ -14,8 +14,8 @@ append-requires c =
     let space = own.space in
     (s.least, (s.most, (omega arith, omega arith)))
 
-pub invariant-of-self : goal.invariant-of-self
-invariant-of-self c =
+pub invariant_of-self : goal.invariant_of-self
+invariant_of-self c =
     let s = c.args.self.now in
     let kept = (entry_kept _ (stood s) c.args.held _ _ _ _ (search rules) (omega arith) c.append.ensures (omega arith) (omega arith) (omega arith)).keeps in
     record { least = kept.least; most = kept.most; room = kept.room; sound = kept.sound; laid = kept.laid }

@@ -4,8 +4,8 @@ use Rattle.journals.specs.Files.{entries_in}
 use Rattle.journals.proofs.Owned.{said}
 use Rattle.journals.proofs.journal.calls.JournalBookieStorage.copy_of.Goals as goal
 
-pub find-in-requires : goal.find-in-requires
-find-in-requires c =
+pub find_in-requires : goal.find_in-requires
+find_in-requires c =
     let s = c.args.self.now in
     let rest = take_rest s.journal.file.now 32 in
     let long = length-drop 32 s.journal.file.now in

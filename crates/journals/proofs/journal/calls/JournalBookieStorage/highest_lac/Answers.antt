@@ -4,8 +4,8 @@ use Rattle.journals.specs.Files.{entries_in}
 use Rattle.journals.proofs.Owned.{said}
 use Rattle.journals.proofs.journal.calls.JournalBookieStorage.highest_lac.Goals as goal
 
-pub highest-in-requires : goal.highest-in-requires
-highest-in-requires c =
+pub highest_in-requires : goal.highest_in-requires
+highest_in-requires c =
     let s = c.args.self.now in
     let rest = take_rest s.journal.file.now 32 in
     let long = length-drop 32 s.journal.file.now in
