@@ -1,5 +1,5 @@
 -- Fragments, the one that an entry belongs to, and the change of a layout.
-use Rattle.std.specs.Prelude.{◌≡◌, ℕ, zero, suc, ◌-◌, ◌<◌, ◌≤◌, min, Bool, cond, ◌||◌, List, [], ◌∷◌, map, get_or, set, replicate, ◌==◌, nat_le, nat_lt, slice_index, slice_index_or, slice_set, refl}
+use Rattle.std.specs.Prelude.{◌≡◌, ℕ, zero, suc, ◌-◌, ◌<◌, ◌≤◌, min, Bool, cond, ◌||◌, List, [], ◌∷◌, map, get_or, replicate, ◌==◌, nat_le, nat_lt, slice_index, slice_index_or, slice_set, refl}
 use Rattle.std.proofs.Common.{◌∙◌, arith, lit≤, length-set}
 use Rattle.std.proofs.lemmas.Bool.{cond_both}
 use Rattle.ledgers.specs.Limits.{max_entries, max_ensemble, max_fragments}

@@ -1,5 +1,5 @@
 -- The positions of an ensemble: write sets, marks on positions, and what a set of positions covers.
-use Rattle.std.specs.Prelude.{ℕ, zero, suc, ◌-◌, ◌%◌, Bool, true, false, cond, ◌&&◌, List, [], ◌∷◌, set, replicate, ◌==◌, nat_le, slice_index, slice_index_or, slice_set}
+use Rattle.std.specs.Prelude.{ℕ, zero, suc, ◌-◌, ◌%◌, Bool, true, false, cond, ◌&&◌, List, [], ◌∷◌, replicate, ◌==◌, nat_le, slice_index, slice_index_or, slice_set}
 use Rattle.ledgers.specs.Limits.{max_ensemble}
 use Rattle.layout.specs.declared.sizes.Sizes.{Sizes}
 

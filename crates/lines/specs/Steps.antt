@@ -5,7 +5,7 @@ use Rattle.ledgers.specs.Ids.{ledger_id, bookie_id, position_id, message_place, 
 use Rattle.ledgers.specs.BookieLists.{made_list}
 use Rattle.ledgers.specs.declared.bookie_lists.BookieList.{BookieList}
 use Rattle.ledgers.specs.declared.steps.Step.{Step}
-use Rattle.ledgers.specs.declared.steps.Step.TheVariants.{Create, Append, Resend, ChangeEnsemble, Close, Recover, AskAgain, Finish, Deliver, Duplicate, Discard, Stop, Start}
+use Rattle.ledgers.specs.declared.steps.Step.TheVariants.{Create, Resend, ChangeEnsemble, Close, Recover, AskAgain, Finish, Deliver, Duplicate, Discard, Stop, Start}
 use Rattle.words.specs.declared.letters.Letter.{Letter}
 use Rattle.words.specs.declared.letters.Letter.TheVariants as letter
 use Rattle.lines.specs.declared.numbers.Numbers.{Numbers}

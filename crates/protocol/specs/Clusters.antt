@@ -1,5 +1,5 @@
 -- The cluster: bookies by number, the store, the writers of sixteen ledgers, four recoverers, and the messages that wait.
-use Rattle.std.specs.Prelude.{ℕ, List, [], map, set, replicate, None, slice_index_or, slice_set}
+use Rattle.std.specs.Prelude.{ℕ, List, [], map, replicate, None, slice_index_or, slice_set}
 use Rattle.ledgers.specs.Limits.{max_ledgers, max_recoverers}
 use Rattle.ledgers.specs.Tables.{numbered, renumbered}
 use Rattle.ledgers.specs.declared.ids.LedgerId.{LedgerId}

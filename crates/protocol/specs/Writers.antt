@@ -1,5 +1,5 @@
 -- The writer of a ledger: what each call answers, what the writer becomes and what it sends.
-use Rattle.std.specs.Prelude.{ℕ, suc, ◌+◌, Bool, true, false, cond, not, ◌&&◌, List, [], ◌∷◌, ◌++◌, map, length, take, set, Some, None, Ok, Err, Option, Result, ◌==◌, nat_le, nat_lt, slice_set}
+use Rattle.std.specs.Prelude.{ℕ, suc, ◌+◌, Bool, true, false, cond, not, ◌&&◌, List, [], ◌∷◌, ◌++◌, map, length, take, Some, None, Ok, Err, Option, Result, ◌==◌, nat_le, nat_lt, slice_set}
 use Rattle.ledgers.specs.Limits.{max_entries, max_pending}
 use Rattle.ledgers.specs.Ids.{bookie_id, entry_id, lac_id, version_id}
 use Rattle.ledgers.specs.declared.bodies.Body.{Body}
