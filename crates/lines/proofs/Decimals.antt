@@ -1,7 +1,7 @@
 -- Numbers in decimal digits are numerals, and words with no space in them.
 use Rattle.std.proofs.Common.{◌≡◌, ℕ, ◌+◌, ◌-◌, ◌*◌, ◌<◌, ◌≤◌, true, false, ◌&&◌, ◌||◌, eqb, ltb, List, [], ◌∷◌, length, get_or, Some, decimal, refl, ap, ◌∙◌, ⊎_elim, arith, rules}
 use Rattle.std.specs.Char.{is_ascii_digit}
-use Rattle.std.specs.List.{AllByRecursion as All}
+use Rattle.std.specs.List.{AllByRecursion}
 use Rattle.std.specs.Str.{all_ascii_digits}
 use Rattle.std.proofs.lemmas.Fmt.{decimal_digit, decimal_nonempty, first_decimal, length-decimal-le, digits_decimal, digits_value-decimal}
 use Rattle.std.proofs.lemmas.Str.Parse.{IsNumeralModel, numerals_by_fold, tells_all_ascii_digits}
@@ -32,7 +32,7 @@ onward_digits n (b ∷ bs) h =
     let p = and_parts (is_ascii_digit b) (all_ascii_digits bs) h in
     cond-false _ _ _ (is_digit b p.0).0 ∙ onward_digits (n * 10 + (b - 48)) bs p.1
 
-inner_digits : (ds : List ℕ) → all_ascii_digits ds ≡ true → All (λ b. inner b ≡ true) ds
+inner_digits : (ds : List ℕ) → all_ascii_digits ds ≡ true → AllByRecursion (λ b. inner b ≡ true) ds
 inner_digits [] h = tt
 inner_digits (b ∷ bs) h = let p = and_parts (is_ascii_digit b) (all_ascii_digits bs) h in ((is_digit b p.0).1, inner_digits bs p.1)
 
@@ -56,5 +56,5 @@ module _ (n : ℕ) (short : Short n) where
       ∙ cond-false _ _ _ leading_zero
       ∙ onward_digits 0 (decimal n) (digits_decimal own n (omega arith)) ∙ ap Some (digits_value-decimal own n (omega arith))
 
-  pub inner_decimal : All (λ b. inner b ≡ true) (decimal n)
+  pub inner_decimal : AllByRecursion (λ b. inner b ≡ true) (decimal n)
   inner_decimal = inner_digits (decimal n) (digits_decimal own n (omega arith))

@@ -1,6 +1,6 @@
 -- A line that is read as a step is the line that is written for it.
 use Rattle.std.proofs.Common.{◌≡◌, ℕ, zero, suc, ◌+◌, ◌-◌, ◌*◌, ◌<◌, ◌≤◌, min, Bool, true, false, cond, not, ◌&&◌, ◌||◌, eqb, ltb, leb, List, [], ◌∷◌, ◌++◌, length, get_or, take, drop, Some, None, Ok, Err, decimal, Option, Result, sym, refl, ap, ◌∙◌, subst, ⊎_elim, add-zero, one-add, arith}
-use Rattle.std.specs.List.{prefix_len, AllByRecursion as All}
+use Rattle.std.specs.List.{prefix_len, AllByRecursion}
 use Rattle.std.specs.Str.{all_ascii_digits}
 use Rattle.std.specs.Char.{is_ascii_digit}
 use Rattle.std.proofs.lemmas.Fmt.{decimal-digits_value}
@@ -128,7 +128,7 @@ gap_space b bs gap = grind (arith, nat_tests)
 record Numbered (n : Numbers) (ws : List ℕ) (m : Numbers) : Type 0 where
   ns : List ℕ
   is : ws ≡ spaced ns
-  short : All Short ns
+  short : AllByRecursion Short ns
   all : m ≡ all_with n ns
 
 -- one number more in front
@@ -289,7 +289,7 @@ read_numbers_was x fits ws s gap e = from (numbers_from no_numbers (more_words w
           rest =
               numbers.is ∙ ap spaced (sym of.numbers) ∙ sym (append-nil (spaced (numbers_in s)))
               ∙ ap (λ t. spaced (numbers_in s) ++ t) (sym of.bare);
-          within = record { ranged = made.2; short = subst (All Short) (sym of.numbers) numbers.short; said = of.said };
+          within = record { ranged = made.2; short = subst (AllByRecursion Short) (sym of.numbers) numbers.short; said = of.said };
         }
 
 -- An append.

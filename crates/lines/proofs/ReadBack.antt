@@ -1,6 +1,6 @@
 -- What is written for a step is read as that step.
 use Rattle.std.proofs.Common.{◌≡◌, ℕ, suc, ◌+◌, ◌-◌, ◌*◌, ◌<◌, ◌≤◌, true, false, cond, not, ◌&&◌, ◌||◌, eqb, ltb, List, [], ◌∷◌, ◌++◌, map, length, Some, None, Ok, decimal, Option, sym, refl, ap, ◌∙◌, one-add, arith}
-use Rattle.std.specs.List.{prefix_len, AllByRecursion as All}
+use Rattle.std.specs.List.{prefix_len, AllByRecursion}
 use Rattle.std.proofs.lemmas.List.{append-nil, length-append, length_push, get_or_push, take_at, drop_at}
 use Rattle.std.proofs.lemmas.Bool.{cond-true, cond-false, and_from, and_left, lt-ltb, le-leb, eq-eqb, ne_eqb, ltb-true}
 use Rattle.std.proofs.lemmas.Bool.Decides.{nat_tests}
@@ -28,14 +28,14 @@ use Rattle.lines.proofs.Decimals.{Short, few_digits, numeral_decimal, inner_deci
 
 -- A word ends where a gap begins: at the end of the text or at a space.
 module _ (ws : List ℕ) (gap : prefix_len inner ws ≡ 0) where
-  leading_word : (w : List ℕ) → All (λ b. inner b ≡ true) w → prefix_len inner (w ++ ws) ≡ length w
+  leading_word : (w : List ℕ) → AllByRecursion (λ b. inner b ≡ true) w → prefix_len inner (w ++ ws) ≡ length w
   leading_word [] h = gap
   leading_word (b ∷ w) h = cond-true (inner b) _ _ h.0 ∙ ap (λ n. 1 + n) (leading_word w h.1) ∙ one-add (length w)
 
-  first_word_is : (w : List ℕ) → All (λ b. inner b ≡ true) w → first_of (w ++ ws) ≡ w
+  first_word_is : (w : List ℕ) → AllByRecursion (λ b. inner b ≡ true) w → first_of (w ++ ws) ≡ w
   first_word_is w h = take_at w ws (prefix_len inner (w ++ ws)) (sym (leading_word w h))
 
-  after_word_is : (w : List ℕ) → All (λ b. inner b ≡ true) w → after_first (w ++ ws) ≡ ws
+  after_word_is : (w : List ℕ) → AllByRecursion (λ b. inner b ≡ true) w → after_first (w ++ ws) ≡ ws
   after_word_is w h = drop_at w ws (prefix_len inner (w ++ ws)) (sym (leading_word w h))
 
 gap_spaced : (ns t : List ℕ) → prefix_len inner t ≡ 0 → prefix_len inner (spaced ns ++ t) ≡ 0
@@ -43,7 +43,7 @@ gap_spaced [] t gap = gap
 gap_spaced (n ∷ ns) t gap = refl
 
 -- the words of spaced numbers
-words_spaced : (ns : List ℕ) → All Short ns → more_words (spaced ns) ≡ map decimal ns
+words_spaced : (ns : List ℕ) → AllByRecursion Short ns → more_words (spaced ns) ≡ map decimal ns
 words_spaced [] h = refl
 words_spaced (n ∷ ns) h =
     let tail = decimal n ++ spaced ns in
@@ -67,7 +67,7 @@ abbrev pub all_with : Numbers → List ℕ → Numbers
 all_with n [] = n
 all_with n (x ∷ xs) = all_with (with_number n x) xs
 
-numbers_read : (n : Numbers) (xs : List ℕ) → All Short xs → numbers_from n (map decimal xs) ≡ Ok (all_with n xs)
+numbers_read : (n : Numbers) (xs : List ℕ) → AllByRecursion Short xs → numbers_from n (map decimal xs) ≡ Ok (all_with n xs)
 numbers_read n [] h = refl
 numbers_read n (x ∷ xs) h =
     ap (λ r. and_then r (λ v. numbers_from (with_number n v) (map decimal xs))) (number_read (n.count + 1) x (omega arith) h.0)
@@ -116,7 +116,7 @@ module _ (x : Letter) (rest : List ℕ) (gap : prefix_len inner rest ≡ 0) (few
       ∙ ap (λ ws. by_letter (letter_in (word_at 0 (byte_of x ∷ []))) true ws) (after_word_is rest gap (byte_of x ∷ []) (is.1, tt))
       ∙ ap (λ r. by_letter r true rest) is.0
 
-length_spaced : (ns : List ℕ) → All Short ns → length (spaced ns) ≤ 6 * length ns
+length_spaced : (ns : List ℕ) → AllByRecursion Short ns → length (spaced ns) ≤ 6 * length ns
 length_spaced [] h = omega arith
 length_spaced (n ∷ ns) h =
     omega (arith, few_digits n h.0, length_spaced ns h.1, length-append (decimal n) (spaced ns))

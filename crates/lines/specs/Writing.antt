@@ -1,6 +1,6 @@
 -- The line that is written for a step, and what it promises to be read as.
 use Rattle.std.specs.Prelude.{◌≡◌, ℕ, ◌<◌, Bool, true, List, [], ◌∷◌, ◌++◌, Ok, decimal, nat_lt}
-use Rattle.std.specs.List.{AllByRecursion as All}
+use Rattle.std.specs.List.{AllByRecursion}
 use Rattle.ledgers.specs.Bodies.{content}
 use Rattle.ledgers.specs.BookieLists.{listed}
 use Rattle.ledgers.specs.declared.steps.Step.{Step}
@@ -89,7 +89,7 @@ pub record InScript (s : Step) : Type 0 where
   -- its ledger is 1 to 16 and its recoverer 1 to 4
   pub ranged : misses_range s ≡ 0
   -- five digits write each of its numbers
-  pub short : All (λ n. n < 100000) (numbers_in s)
+  pub short : AllByRecursion (λ n. n < 100000) (numbers_in s)
   pub said : sayable s ≡ true
 
 -- The law of lines.

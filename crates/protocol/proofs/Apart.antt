@@ -1,7 +1,7 @@
 -- The bookies of a write set are different ones: positions differ, and so do the bookies of a fragment.
 use Rattle.std.proofs.Common.{◌≡◌, ℕ, zero, suc, ◌+◌, ◌-◌, ◌%◌, ◌<◌, ◌≤◌, Bool, true, false, cond, eqb, leb, List, [], ◌∷◌, map, length, get_or, take, set, replicate, sym, refl, ap, ◌∙◌, subst, inl, inr, le_of_suc-le-suc, not-suc-le-zero, mod-lt, mod-eq_of_lt, arith, lit≤}
 use native.Mathlib.Nat.{mod-add-mod, mod-eq-sub-mod}
-use Rattle.std.specs.List.{AllByRecursion as All}
+use Rattle.std.specs.List.{AllByRecursion}
 use Rattle.std.proofs.lemmas.List.{get_or-take, length-take-le}
 use Rattle.std.proofs.lemmas.Bool.{both_ways, true≢false, false≢true, cond_both, eqb-false, eq-eqb, ne_eqb, leb-false, cases_lt}
 use Rattle.ledgers.specs.Limits.{max_ensemble}
@@ -66,7 +66,7 @@ places_apart (x ∷ xs) (suc i) (suc j) d h k e =
 -- a function that keeps the numbers below m apart
 module _ (f : ℕ → ℕ) (m : ℕ) (one : (i j : ℕ) → i < m → j < m → f i ≡ f j → i ≡ j) where
   -- what is out stays out
-  not_member_map : (p : ℕ) (ps : List ℕ) → p < m → All (λ q. q < m) ps → member p ps ≡ false → member (f p) (map f ps) ≡ false
+  not_member_map : (p : ℕ) (ps : List ℕ) → p < m → AllByRecursion (λ q. q < m) ps → member p ps ≡ false → member (f p) (map f ps) ≡ false
   not_member_map p [] lt all h = refl
   not_member_map p (q ∷ ps) lt all h =
       let k = either_not (eqb p q) (member p ps) h in
@@ -74,7 +74,7 @@ module _ (f : ℕ → ℕ) (m : ℕ) (one : (i j : ℕ) → i < m → j < m → 
       rw ne (not_member_map p ps lt all.1 k.1)
 
   -- and what differs still does
-  map_distinct : (ps : List ℕ) → All (λ q. q < m) ps → distinct ps ≡ true → distinct (map f ps) ≡ true
+  map_distinct : (ps : List ℕ) → AllByRecursion (λ q. q < m) ps → distinct ps ≡ true → distinct (map f ps) ≡ true
   map_distinct [] all d = refl
   map_distinct (p ∷ ps) all d =
       let k = neither (member p ps) (distinct ps) d in rw (not_member_map p ps all.0 all.1 k.0) (map_distinct ps all.1 k.1)
@@ -108,7 +108,7 @@ positions_distinct (suc n) e m le =
     rw other (positions_distinct n (suc e) m (omega arith))
 
 -- and are positions of the ensemble
-positions_within : (n e m : ℕ) → 1 ≤ m → All (λ q. q < m) (positions n e m)
+positions_within : (n e m : ℕ) → 1 ≤ m → AllByRecursion (λ q. q < m) (positions n e m)
 positions_within zero e m some = tt
 positions_within (suc n) e m some = (mod-lt e some, positions_within n (suc e) m some)
 

@@ -1,6 +1,6 @@
 -- One lemma for each kind of change of a cluster: the world after it is later, and the invariant is kept.
 use Rattle.std.proofs.Common.{◌≡◌, ℕ, ◌≤◌, Bool, true, List, length, Some, None, sym, refl, ◌∙◌, subst, inl, inr, arith, length-set}
-use Rattle.std.specs.List.{AllByRecursion as All}
+use Rattle.std.specs.List.{AllByRecursion}
 use Rattle.ledgers.specs.Tables.{row}
 use Rattle.ledgers.specs.declared.bodies.Body.{Body}
 use Rattle.messages.specs.Waiting.{sent}
@@ -19,7 +19,7 @@ use Rattle.protocol.proofs.Lasting.{copies_later, under_shut, ledger_later, writ
 
 -- messages and recoverers --------------------------------------------------------------------------------------------
 -- other true messages wait
-pub with_messages : {x₀ x : World} {rs : ℕ → Recoverer} {ms : List Message} (new : List Message) → Inv x₀ x rs ms → All (MessageOk x) new → Inv x₀ x rs new
+pub with_messages : {x₀ x : World} {rs : ℕ → Recoverer} {ms : List Message} (new : List Message) → Inv x₀ x rs ms → AllByRecursion (MessageOk x) new → Inv x₀ x rs new
 with_messages new i h =
     record {
       since = i.since;
@@ -35,7 +35,7 @@ with_messages new i h =
     }
 
 -- true messages are sent
-pub sent_inv : {x₀ : World} (ns : List Note) (c : Cluster) (new : List Message) → InvAt x₀ ns c → All (MessageOk (world ns c)) new → InvAt x₀ ns (send c new)
+pub sent_inv : {x₀ : World} (ns : List Note) (c : Cluster) (new : List Message) → InvAt x₀ ns c → AllByRecursion (MessageOk (world ns c)) new → InvAt x₀ ns (send c new)
 sent_inv ns c new i h = with_messages (sent c.queue new).waiting i (all_sent (MessageOk (world ns c)) c.queue new i.messages h)
 
 -- one recoverer changes
@@ -94,7 +94,7 @@ bookies_later x bs ak g m f =
 
 -- so the invariant is kept
 pub bookies_inv : {x₀ : World} (x : World) (bs : ℕ → Bookie) (ak : ℕ → ℕ → ℕ → Bool) {rs : ℕ → Recoverer} {ms : List Message}
-    → Later x (with_bookies x bs ak) → Inv x₀ x rs ms → ((b : ℕ) → All (CopyOk x) (bs b).entries)
+    → Later x (with_bookies x bs ak) → Inv x₀ x rs ms → ((b : ℕ) → AllByRecursion (CopyOk x) (bs b).entries)
     → ((l e b : ℕ) → ak l e b ≡ true → holds (bs b) l e ≡ true) → Inv x₀ (with_bookies x bs ak) rs ms
 bookies_inv x bs ak t i h a =
     inv_later t i a h (λ l. writer_more (x.contents l) (x.acked l) (ak l) (x.writer l) (t.acked l) (i.writing l))
@@ -102,10 +102,10 @@ bookies_inv x bs ak t i h a =
 
 -- one bookie changes, and no writer's add is acknowledged
 pub bookie_inv : {x₀ : World} (ns : List Note) (c : Cluster) (b : ℕ) (B : Bookie) → InvAt x₀ ns c → Grows (bookie_of c b) B
-    → All (CopyOk (world ns c)) B.entries → InvAt x₀ ns (with_bookie c b B)
+    → AllByRecursion (CopyOk (world ns c)) B.entries → InvAt x₀ ns (with_bookie c b B)
 bookie_inv ns c b B i g h =
     bookies_inv (world ns c) (bookie_of (with_bookie c b B)) (acked_by ns) t i
-    (λ k. at_set (λ C. All (CopyOk (world ns c)) C.entries) c.bookies b k B no_bookie (λ _. h) (i.copies k))
+    (λ k. at_set (λ C. AllByRecursion (CopyOk (world ns c)) C.entries) c.bookies b k B no_bookie (λ _. h) (i.copies k))
     (λ l e k a. t.held l e k (i.acked l e k a))
   where
     t : Later (world ns c) (world ns (with_bookie c b B))

@@ -1,6 +1,6 @@
 -- Each fact of the invariant lasts from a world to every later one.
 use Rattle.std.proofs.Common.{◌≡◌, ℕ, suc, ◌≤◌, Bool, true, false, not, List, [], ◌∷◌, sym, refl, ◌∙◌, inl, inr, arith}
-use Rattle.std.specs.List.{AllByRecursion as All}
+use Rattle.std.specs.List.{AllByRecursion}
 use Rattle.std.proofs.ByRecursion.{All-weaker}
 use Rattle.std.proofs.lemmas.Bool.{and_parts, and_from, both_ways, not-true}
 use Rattle.ledgers.specs.declared.bodies.Body.{Body}
@@ -55,7 +55,7 @@ message_later t (RecoveryAdded r l b e) h = t.held l.0 e.0 b.0 h
 message_later t (Refused r l b f) h = h
 
 -- copies stay true
-pub copies_later : {x y : World} → Later x y → (hs : List Held) → All (CopyOk x) hs → All (CopyOk y) hs
+pub copies_later : {x y : World} → Later x y → (hs : List Held) → AllByRecursion (CopyOk x) hs → AllByRecursion (CopyOk y) hs
 copies_later {x} {y} t hs = All-weaker (CopyOk x) (CopyOk y) (λ h. sent_later t h.ledger.0 h.entry.0 h.lac.0 h.body) hs
 
 -- what an ack quorum holds it holds on
@@ -164,7 +164,7 @@ later_trans {x} {y} {z} s t =
 -- from a world to a later one, where acknowledgements, copies, writers and metadata are seen to anew
 pub inv_later : {x₀ x y : World} {rs : ℕ → Recoverer} {ms : List Message} → Later x y → Inv x₀ x rs ms
     → ((l e b : ℕ) → y.acked l e b ≡ true → held_at y l e b ≡ true)
-    → ((b : ℕ) → All (CopyOk y) (y.bookie b).entries)
+    → ((b : ℕ) → AllByRecursion (CopyOk y) (y.bookie b).entries)
     → ((l : ℕ) → WriterOk (y.contents l) (y.acked l) (y.writer l))
     → ((l : ℕ) → LedgerOk y l (y.writer l) (y.ledger l)) → Inv x₀ y rs ms
 inv_later {x₀} {x} {y} {rs} {ms} t i a h w s =

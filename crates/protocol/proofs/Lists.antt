@@ -1,6 +1,6 @@
 -- Lemmas on lists, tables, counts and marks that know nothing of a cluster.
 use Rattle.std.proofs.Common.{◌≡◌, ℕ, zero, suc, ◌+◌, ◌-◌, ◌<◌, ◌≤◌, Bool, true, false, cond, eqb, ltb, leb, ◌⊎◌, List, [], ◌∷◌, ◌++◌, map, length, get_or, take, drop, set, replicate, sym, refl, ap, ◌∙◌, subst, inl, inr, le_of_suc-le-suc, not-suc-le-zero, arith}
-use Rattle.std.specs.List.{AllByRecursion as All}
+use Rattle.std.specs.List.{AllByRecursion}
 use Rattle.std.proofs.ByRecursion.{All-append, All-push, All-take, All-drop}
 use Rattle.std.proofs.lemmas.List.{get_or_past, set_past}
 use Rattle.std.proofs.lemmas.Bool.{and_parts, true≢false, false≢true, cond_both, cond-false, eqb-true, ne_eqb, leb-true, cases_eq, cases_lt}
@@ -135,16 +135,16 @@ all_blank P n i d h = at_replicate P n (row (replicate n d) i) d h
 
 -- waiting lists ------------------------------------------------------------------------------------------------------
 -- what holds of all holds of the rest
-pub all_taken_off : {A : Type 0} (P : A → Type 0) (xs : List A) (i : ℕ) → All P xs → All P (taken_off xs i)
+pub all_taken_off : {A : Type 0} (P : A → Type 0) (xs : List A) (i : ℕ) → AllByRecursion P xs → AllByRecursion P (taken_off xs i)
 all_taken_off P xs i h = All-append P (take i xs) (drop (suc i) xs) (All-take P i xs h) (All-drop P (suc i) xs h)
 
 -- and with one message more
-pub all_sent_one : (P : Message → Type 0) (q : Queue) (m : Message) → All P q.waiting → P m → All P (sent_one q m).waiting
+pub all_sent_one : (P : Message → Type 0) (q : Queue) (m : Message) → AllByRecursion P q.waiting → P m → AllByRecursion P (sent_one q m).waiting
 all_sent_one P q m h k =
-    cond_both (ltb (length q.waiting) q.room) (q.waiting ++ (m ∷ [])) q.waiting (All P) (λ _. All-push P q.waiting m h k) (λ _. h)
+    cond_both (ltb (length q.waiting) q.room) (q.waiting ++ (m ∷ [])) q.waiting (AllByRecursion P) (λ _. All-push P q.waiting m h k) (λ _. h)
 
 -- or with several
-pub all_sent : (P : Message → Type 0) (q : Queue) (new : List Message) → All P q.waiting → All P new → All P (sent q new).waiting
+pub all_sent : (P : Message → Type 0) (q : Queue) (new : List Message) → AllByRecursion P q.waiting → AllByRecursion P new → AllByRecursion P (sent q new).waiting
 all_sent P q [] h k = h
 all_sent P q (m ∷ new) h k = all_sent P (sent_one q m) new (all_sent_one P q m h k.0) k.1
 

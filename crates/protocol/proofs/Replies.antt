@@ -1,6 +1,6 @@
 -- The delivery of a reply: what its writer or its recoverer becomes.
 use Rattle.std.proofs.Common.{◌≡◌, ℕ, suc, ◌+◌, ◌<◌, ◌≤◌, Bool, true, false, eqb, ltb, leb, List, [], ◌∷◌, length, get_or, Ok, Err, Result, sym, refl, ap, subst, inl, inr, arith}
-use Rattle.std.specs.List.{AllByRecursion as All}
+use Rattle.std.specs.List.{AllByRecursion}
 use Rattle.std.proofs.lemmas.Bool.{and_parts, both_ways, true≢false, false≢true, cond_both, eqb-true, leb-true, cases_eq}
 use Rattle.ledgers.specs.Limits.{max_entries}
 use Rattle.ledgers.specs.Ids.{bookie_id, entry_id}
@@ -162,14 +162,14 @@ to_writer_keeps ns c l b e a i g =
 
 -- requests of a recoverer --------------------------------------------------------------------------------------------
 -- what each request has, all have
-all_asks : (P : Message → Type 0) (m : List Bool) (bs : List ℕ) (f : BookieId → Message) (ps : List ℕ) → ((b : BookieId) → P (f b)) → All P (asks_to m bs f ps)
+all_asks : (P : Message → Type 0) (m : List Bool) (bs : List ℕ) (f : BookieId → Message) (ps : List ℕ) → ((b : BookieId) → P (f b)) → AllByRecursion P (asks_to m bs f ps)
 all_asks P m bs f [] h = tt
 all_asks P m bs f (p ∷ ps) h =
-    cond_both (marked m p) (asks_to m bs f ps) (f (bookie_id (get_or bs p 0)) ∷ asks_to m bs f ps) (All P) (λ _. all_asks P m bs f ps h)
+    cond_both (marked m p) (asks_to m bs f ps) (f (bookie_id (get_or bs p 0)) ∷ asks_to m bs f ps) (AllByRecursion P) (λ _. all_asks P m bs f ps h)
     (λ _. (h (bookie_id (get_or bs p 0)), all_asks P m bs f ps h))
 
 -- only what is written back says anything
-pub asks_ok : (x : World) (R : Recoverer) (r : RecovererId) (ph : Phase) → PhaseOk x R R.ledger.0 R.layout ph → All (MessageOk x) (asks_in ph R r)
+pub asks_ok : (x : World) (R : Recoverer) (r : RecovererId) (ph : Phase) → PhaseOk x R R.ledger.0 R.layout ph → AllByRecursion (MessageOk x) (asks_in ph R r)
 asks_ok x R r Idle h = tt
 asks_ok x R r (Fencing m) h = all_asks (MessageOk x) m (last_fragment R.layout).bookies (λ b. Fence r R.ledger b) (ensemble R.layout.sizes) (λ b. tt {0})
 asks_ok x R r (Reading m) h =
@@ -343,7 +343,7 @@ pub to_recoverer_keeps : {x₀ : World} (ns : List Note) (c : Cluster) (r : Reco
     → InvAt x₀ ns (to_recoverer c r m).next
 to_recoverer_keeps ns c r m i g =
     sent_inv ns (with_recoverer c r.0 R') (heard_sends R r m) (recoverer_inv ns c r.0 R' i ok)
-    (cond_both (eqb (phase_number R.phase) (phase_number R'.phase)) [] (asks R' r) (All (MessageOk (world ns c))) (λ _. tt)
+    (cond_both (eqb (phase_number R.phase) (phase_number R'.phase)) [] (asks R' r) (AllByRecursion (MessageOk (world ns c))) (λ _. tt)
     (λ _. asks_ok (world ns c) R' r R'.phase (phase_of (world ns c) R' ok R'.phase refl)))
   where
     R : Recoverer

@@ -1,6 +1,6 @@
 -- The delivery of a request: what a bookie that answers has become, and that its reply is true.
 use Rattle.std.proofs.Common.{◌≡◌, ℕ, ◌≤◌, max, Bool, true, false, cond, not, ◌&&◌, ◌||◌, eqb, ◌⊎◌, List, [], ◌∷◌, ◌++◌, length, Some, None, Ok, Err, Option, Result, sym, refl, ap, ◌∙◌, subst, inl, inr, arith, length-set}
-use Rattle.std.specs.List.{AllByRecursion as All}
+use Rattle.std.specs.List.{AllByRecursion}
 use Rattle.std.proofs.ByRecursion.{All-push}
 use Rattle.std.proofs.lemmas.List.{get_or-set_same}
 use Rattle.std.proofs.lemmas.Bool.{and_parts, and_from, both_ways, not-true, false≢true, cond_both, eqb-true, eq-eqb, or_cases, or_left, or_right}
@@ -52,7 +52,7 @@ find_new (g ∷ hs) h = one (find_new hs h) (is_copy g h.ledger.0 h.entry.0)
     one rest false = rest
 
 -- the LACs of copies are ones that the writer has had
-highest_le : (x : World) (hs : List Held) (l : ℕ) → All (CopyOk x) hs → highest_lac hs l ≤ (x.writer l).lac
+highest_le : (x : World) (hs : List Held) (l : ℕ) → AllByRecursion (CopyOk x) hs → highest_lac hs l ≤ (x.writer l).lac
 highest_le x [] l h = omega arith
 highest_le x (g ∷ hs) l h =
     cond_both (eqb g.ledger.0 l) (max g.lac.0 (highest_lac hs l)) (highest_lac hs l) (λ n. n ≤ (x.writer l).lac)
@@ -66,7 +66,7 @@ FoundOk x l e None = Unit {0}
 FoundOk x l e (Some h) = Sent x l e h.lac.0 h.body
 
 -- a copy that is found is one of this entry
-pub find_ok : (x : World) (hs : List Held) (l e : ℕ) → All (CopyOk x) hs → FoundOk x l e (find hs l e)
+pub find_ok : (x : World) (hs : List Held) (l e : ℕ) → AllByRecursion (CopyOk x) hs → FoundOk x l e (find hs l e)
 find_ok x [] l e h = tt
 find_ok x (g ∷ hs) l e h =
     cond_both (is_copy g l e) (Some g) (find hs l e) (FoundOk x l e)
@@ -93,9 +93,9 @@ module _ (B : Bookie) (l : LedgerId) (e : EntryId) (n : Lac) (body : Body) (reco
   add_grows = add_cases (Grows B) (grows_same B) (λ _. record { held = λ k f. find_more B.entries copy k f; fenced = λ k h. h; flags = refl })
 
   -- its copy is true
-  add_copies : (x : World) → All (CopyOk x) B.entries → Sent x l.0 e.0 n.0 body → All (CopyOk x) (add_after B l e n body recovery).entries
+  add_copies : (x : World) → AllByRecursion (CopyOk x) B.entries → Sent x l.0 e.0 n.0 body → AllByRecursion (CopyOk x) (add_after B l e n body recovery).entries
   unfolding copy
-  add_copies x h s = add_cases (λ C. All (CopyOk x) C.entries) h (λ _. All-push (CopyOk x) B.entries copy h s)
+  add_copies x h s = add_cases (λ C. AllByRecursion (CopyOk x) C.entries) h (λ _. All-push (CopyOk x) B.entries copy h s)
 
   -- an acknowledged entry is held
   add_holds : (u : Unit {0}) → add_answer B l e n body recovery ≡ Ok u → holds (add_after B l e n body recovery) l.0 e.0 ≡ true
@@ -143,7 +143,7 @@ module _ (B : Bookie) (l : LedgerId) where
 
 -- deliveries ---------------------------------------------------------------------------------------------------------
 -- a refusal says nothing
-unless_ok : (x : World) (f : BookieFault) (m : Message) → MessageOk x m → All (MessageOk x) (unless_stopped f m)
+unless_ok : (x : World) (f : BookieFault) (m : Message) → MessageOk x m → AllByRecursion (MessageOk x) (unless_stopped f m)
 unless_ok x refused.Range m g = (g, tt)
 unless_ok x refused.Stopped m g = tt
 unless_ok x refused.Fenced m g = (g, tt)
@@ -177,7 +177,7 @@ fence_keeps ns c r l b i = sent_inv ns c' (fence_reply r l b (fence_answer B l))
     c' : Cluster
     c' = with_bookie c b.0 (fence_after B l)
 
-    true_reply : (a : Result Lac BookieFault) → fence_answer B l ≡ a → All (MessageOk (world ns c')) (fence_reply r l b a)
+    true_reply : (a : Result Lac BookieFault) → fence_answer B l ≡ a → AllByRecursion (MessageOk (world ns c')) (fence_reply r l b a)
     true_reply (Ok n) z = (
       (
         fenced_there ns c b.0 l n i z,
@@ -215,7 +215,7 @@ read_keeps ns c r l b e i =
     never q false k = refl
 
     true_reply : (a : Result (Option Held) BookieFault) → recovery_read_answer B l e ≡ a → FoundOk (world ns c) l.0 e.0 (find B.entries l.0 e.0)
-        → All (MessageOk (world ns c')) (read_reply r l b e a)
+        → AllByRecursion (MessageOk (world ns c')) (read_reply r l b e a)
     true_reply (Ok None) z f =
         let p = read_passed None z in (
           and_from (is_fenced (bookie_of c' b.0) l.0) (not (acked_by ns l.0 e.0 b.0))
@@ -242,7 +242,7 @@ recovery_add_keeps ns c r l b e n body i s =
     c' : Cluster
     c' = with_bookie c b.0 C
 
-    true_reply : (a : Result (Unit {0}) BookieFault) → add_answer B l e n body true ≡ a → All (MessageOk (world ns c')) (recovery_add_reply r l b e a)
+    true_reply : (a : Result (Unit {0}) BookieFault) → add_answer B l e n body true ≡ a → AllByRecursion (MessageOk (world ns c')) (recovery_add_reply r l b e a)
     true_reply (Ok u) z = (rw (put_there c b.0 C (add_passed B l e n body true u z).0) (add_holds B l e n body true u z), tt)
     true_reply (Err f) z = unless_ok (world ns c') f (Refused r l b f) tt
 
@@ -274,14 +274,14 @@ add_keeps {x₀} ns c l b e n body i s = by (add_answer B l e n body false) refl
     grown : (k : ℕ) → Grows (bookie_of c k) (bookie_of c' k)
     grown k = set_rel Grows grows_same c.bookies b.0 k C no_bookie (add_grows B l e n body false)
 
-    copies : All (CopyOk (world ns c)) C.entries
+    copies : AllByRecursion (CopyOk (world ns c)) C.entries
     copies = add_copies B l e n body false (world ns c) (i.copies b.0) s
 
     acknowledging : (u : Unit {0}) → add_answer B l e n body false ≡ Ok u → InvAt x₀ (new ∷ ns) (send c' (Added l b e ∷ []))
     acknowledging u z =
         sent_inv (new ∷ ns) c' (Added l b e ∷ [])
         (bookies_inv (world ns c) (bookie_of c') (acked_by (new ∷ ns)) later i
-        (λ k. at_set (λ D. All (CopyOk (world ns c)) D.entries) c.bookies b.0 k C no_bookie (λ _. copies) (i.copies k))
+        (λ k. at_set (λ D. AllByRecursion (CopyOk (world ns c)) D.entries) c.bookies b.0 k C no_bookie (λ _. copies) (i.copies k))
         (λ l' e' k h. has l' e' k (or_cases (is_ack new l' e' k) (acked_by ns l' e' k) h)))
         (or_left (is_ack new l.0 e.0 b.0) (acked_by ns l.0 e.0 b.0) (rw (same_number l.0, same_number e.0, same_number b.0)), tt)
       where

@@ -1,6 +1,6 @@
 -- Every step, and so every run from a cluster set up empty, keeps the invariant.
 use Rattle.std.proofs.Common.{◌≡◌, ℕ, zero, suc, List, [], ◌∷◌, map, length, get_or, None, Ok, Err, refl, arith}
-use Rattle.std.specs.List.{AllByRecursion as All}
+use Rattle.std.specs.List.{AllByRecursion}
 use Rattle.std.proofs.lemmas.Bool.{false≢true}
 use Rattle.ledgers.specs.Limits.{max_ledgers, max_recoverers}
 use Rattle.ledgers.specs.declared.ids.MessagePlace.{MessagePlace}
@@ -98,7 +98,7 @@ empty_inv spaces changes room =
     record {
       since = later_refl (world [] c);
       acked = λ l e b h. absurd (false≢true h);
-      copies = λ b. of_new (λ B. All (CopyOk (world [] c)) B.entries) spaces b (λ _. tt) tt;
+      copies = λ b. of_new (λ B. AllByRecursion (CopyOk (world [] c)) B.entries) spaces b (λ _. tt) tt;
       messages = tt;
       writing = λ l. all_blank (WriterOk [] (acked_by [] l)) max_ledgers l no_writer
           (record {

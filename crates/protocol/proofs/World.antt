@@ -1,7 +1,7 @@
 -- The invariant. A world is what its facts are about: the cluster as functions of numbers, and of the run so far the
 -- contents that were appended, and which bookie acknowledged which entry to its writer.
 use Rattle.std.proofs.Common.{◌≡◌, ℕ, suc, ◌<◌, ◌≤◌, Bool, true, false, cond, not, ◌&&◌, ◌||◌, eqb, ◌⊎◌, List, [], ◌∷◌, ◌++◌, length, get_or, take}
-use Rattle.std.specs.List.{AllByRecursion as All}
+use Rattle.std.specs.List.{AllByRecursion}
 use Rattle.ledgers.specs.Limits.{max_ledgers, max_entries}
 use Rattle.ledgers.specs.declared.bodies.Body.{Body}
 use Rattle.ledgers.specs.declared.steps.Step.{Step}
@@ -274,8 +274,8 @@ pub record Inv (x₀ x : World) (rs : ℕ → Recoverer) (ms : List Message) : T
   pub since : Later x₀ x
   -- what is acknowledged is held
   pub acked : (l e b : ℕ) → x.acked l e b ≡ true → held_at x l e b ≡ true
-  pub copies : (b : ℕ) → All (CopyOk x) (x.bookie b).entries
-  pub messages : All (MessageOk x) ms
+  pub copies : (b : ℕ) → AllByRecursion (CopyOk x) (x.bookie b).entries
+  pub messages : AllByRecursion (MessageOk x) ms
   pub writing : (l : ℕ) → WriterOk (x.contents l) (x.acked l) (x.writer l)
   pub metadata : (l : ℕ) → LedgerOk x l (x.writer l) (x.ledger l)
   pub recoverers : (r : ℕ) → RecovererOk x (rs r)

@@ -1,6 +1,6 @@
 -- The writer's steps: create, append, resend, ensemble change and close.
 use Rattle.std.proofs.Common.{◌≡◌, ℕ, zero, suc, ◌+◌, ◌-◌, ◌<◌, ◌≤◌, min, Bool, true, false, cond, not, ◌&&◌, eqb, ltb, leb, List, [], ◌∷◌, ◌++◌, map, length, get_or, take, set, Some, None, Ok, Option, Result, sym, refl, ap, ◌∙◌, subst, inl, inr, arith, length-append, length-set}
-use Rattle.std.specs.List.{AllByRecursion as All}
+use Rattle.std.specs.List.{AllByRecursion}
 use Rattle.std.proofs.ByRecursion.{All-append}
 use Rattle.std.proofs.lemmas.List.{get_or-set_same, get_or-set_other, get_or_append_left, get_or_at, length-take}
 use Rattle.std.proofs.lemmas.Bool.{and_parts, both_ways, not-true, true≢false, cond_both, cond-true, cond-false, eqb-true, eqb-false, ltb-true, le-leb, lt-leb, or_cases}
@@ -130,11 +130,11 @@ pending_push ts body A y e (p ∷ ps) h = (content_more ts body e p.body h.0, h.
 
 -- adds of an entry carry its content
 adds_to_ok : (x : World) (u : Layout) (l : LedgerId) (e n : ℕ) (p : PendingAdd) (qs : List ℕ) → Sent x l.0 e n p.body
-    → All (MessageOk x) (adds_to u l e n p qs)
+    → AllByRecursion (MessageOk x) (adds_to u l e n p qs)
 adds_to_ok x u l e n p [] h = tt
 adds_to_ok x u l e n p (q ∷ qs) h =
     cond_both (marked p.marks q) (adds_to u l e n p qs) (Add l (bookie_id (bookie_at u e q)) (entry_id e) (lac_id n) p.body ∷ adds_to u l e n p qs)
-    (All (MessageOk x)) (λ _. adds_to_ok x u l e n p qs h) (λ _. (h, adds_to_ok x u l e n p qs h))
+    (AllByRecursion (MessageOk x)) (λ _. adds_to_ok x u l e n p qs h) (λ _. (h, adds_to_ok x u l e n p qs h))
 
 -- an entry is appended
 pub append_keeps : {x₀ : World} (ns : List Note) (c : Cluster) (l : LedgerId) (body : Body) → InvAt x₀ ns c → Keeps x₀ ns c (Append l body) (append c l body)
@@ -222,7 +222,7 @@ append_keeps {x₀} ns c l body i =
 -- resend -------------------------------------------------------------------------------------------------------------
 -- adds of pending entries carry their contents
 all_adds_ok : (x : World) (u : Layout) (l : LedgerId) (n e : ℕ) (ps : List PendingAdd) → n ≤ (x.writer l.0).lac
-    → PendingOk (x.contents l.0) (x.acked l.0) u e ps → All (MessageOk x) (all_adds u l n e ps)
+    → PendingOk (x.contents l.0) (x.acked l.0) u e ps → AllByRecursion (MessageOk x) (all_adds u l n e ps)
 all_adds_ok x u l n e [] k h = tt
 all_adds_ok x u l n e (p ∷ ps) k h =
     All-append (MessageOk x) (adds u l e n p) (all_adds u l n (suc e) ps) (adds_to_ok x u l e n p (write_set u.sizes e) (h.0, k))
@@ -455,10 +455,10 @@ module _ (y : Layout) (n p b : ℕ) (room : room_for y n ≡ true) where
 
 -- what goes to the newest bookie carries its content
 adds_at_ok : (x : World) (u y : Layout) (l : LedgerId) (n q : ℕ) (b : BookieId) (e : ℕ) (ps : List PendingAdd) → n ≤ (x.writer l.0).lac
-    → PendingOk (x.contents l.0) (x.acked l.0) u e ps → All (MessageOk x) (adds_at y l n q b e ps)
+    → PendingOk (x.contents l.0) (x.acked l.0) u e ps → AllByRecursion (MessageOk x) (adds_at y l n q b e ps)
 adds_at_ok x u y l n q b e [] k h = tt
 adds_at_ok x u y l n q b e (p ∷ ps) k h =
-    cond_both (member q (write_set y.sizes e)) _ _ (All (MessageOk x)) (λ _. ((h.0, k), adds_at_ok x u y l n q b (suc e) ps k h.2))
+    cond_both (member q (write_set y.sizes e)) _ _ (AllByRecursion (MessageOk x)) (λ _. ((h.0, k), adds_at_ok x u y l n q b (suc e) ps k h.2))
     (λ _. adds_at_ok x u y l n q b (suc e) ps k h.2)
 
 -- an ensemble is changed

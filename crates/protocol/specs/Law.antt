@@ -1,6 +1,6 @@
 -- What holds after every list of steps from a cluster set up empty.
 use Rattle.std.specs.Prelude.{◌≡◌, ℕ, ◌<◌, ◌≤◌, Bool, true, false, ◌⊎◌, List, ◌∷◌, ◌≢◌}
-use Rattle.std.specs.List.{AllByRecursion as All}
+use Rattle.std.specs.List.{AllByRecursion}
 use Rattle.ledgers.specs.declared.bodies.Body.{Body}
 use Rattle.ledgers.specs.declared.ids.EntryId.{EntryId}
 use Rattle.ledgers.specs.declared.ids.Lac.{Lac}
@@ -63,7 +63,7 @@ pub record Word (h : History) (c : Cluster) : Type 0 where
   -- each entry up to the closing entry is held by an ack quorum of different bookies of its write set
   pub kept : (l : LedgerId) (e : EntryId) → IsClosed c l → UpToClose c l e → AckQuorumHolds c l e
   -- every copy in any bookie is true
-  pub copies : (b : ℕ) → All (TrueCopy h) (bookie_of c b).entries
+  pub copies : (b : ℕ) → AllByRecursion (TrueCopy h) (bookie_of c b).entries
   -- the fragments of every ledger rise from entry 0 on
   pub fragments : (l : LedgerId) → Rises (layout_of c l)
   -- once the fence round of a recovery was covered, no entry appended to that ledger afterwards is ever confirmed
