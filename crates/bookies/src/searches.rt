@@ -1,13 +1,13 @@
 // Searches through records, one pass each.
 ghost use Rattle.std.specs.Prelude.{◌≡◌};
-ghost use Rattle.protocol.specs.Bookies.{find as copy-in, highest_lac};
+ghost use Rattle.protocol.specs.Bookies.{find as copy_in, highest_lac};
 
 use ledgers::ids::{EntryId, Lac, LedgerId};
 use messages::entries::Held;
 
 // The copy of an entry.
 pub(crate) fn find(records: &[Held], ledger: LedgerId, number: EntryId) -> Option<Held>
-    ensures { result ≡ copy-in records.now ledger.0 number.0 }
+    ensures { result ≡ copy_in records.now ledger.0 number.0 }
 {
     for held in records {
         if held.ledger.0 == ledger.0 && held.entry.0 == number.0 {

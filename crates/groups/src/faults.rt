@@ -1,7 +1,7 @@
 // Why a group refuses.
 ghost use Rattle.std.specs.Prelude.{◌≡◌};
 ghost use Rattle.groups.specs.Numbers.{group_number};
-ghost use Rattle.groups.specs.declared.faults.GroupFault.TheVariants.{Refused as of-bookie};
+ghost use Rattle.groups.specs.declared.faults.GroupFault.TheVariants.{Refused as of_bookie};
 
 use bookies::faults::fault_number;
 use messages::faults::BookieFault;
@@ -26,7 +26,7 @@ impl GroupFault {
 }
 
 impl From<BookieFault> for GroupFault {
-    ghost from_gives = { λ e r. r ≡ of-bookie e };
+    ghost from_gives = { λ e r. r ≡ of_bookie e };
 
     fn from(e: BookieFault) -> GroupFault {
         GroupFault::Refused(e)

@@ -2,7 +2,7 @@
 ghost use Rattle.std.specs.Prelude.{◌≡◌};
 ghost use Rattle.ledgers.specs.Limits.{is_ledger, is_recoverer};
 ghost use Rattle.lines.specs.Writing.{LinesKeepSteps};
-ghost use Rattle.lines.specs.Reading.{ended as ended-line, text_of, ledger_word, recoverer_word, misses_range, first_letter, read_append, read_numbers, read_line};
+ghost use Rattle.lines.specs.Reading.{ended as ended_line, text_of, ledger_word, recoverer_word, misses_range, first_letter, read_append, read_numbers, read_line};
 
 use crate::numbers::Numbers;
 use ledgers::ids::{LedgerId, MAX_LEDGERS, MAX_RECOVERERS, RecovererId};
@@ -24,7 +24,7 @@ pub fn read_line(line: &[u8]) -> Result<Step, LineFault>
 
 // The same, once it is known whether byte 10 ends the line.
 fn read_ended(line: &[u8], ended: bool) -> Result<Step, LineFault>
-    requires { ended ≡ ended-line line.now }
+    requires { ended ≡ ended_line line.now }
     ensures { result ≡ read_line line.now }
 {
     let text = text_before_end(line, ended);
@@ -37,13 +37,13 @@ fn read_ended(line: &[u8], ended: bool) -> Result<Step, LineFault>
 }
 
 fn is_ended(line: &[u8]) -> bool
-    ensures { result ≡ ended-line line.now }
+    ensures { result ≡ ended_line line.now }
 {
     line.len() > 0 && line[line.len() - 1] == b'\n'
 }
 
 fn text_before_end(line: &[u8], ended: bool) -> &[u8]
-    requires { ended ≡ ended-line line.now }
+    requires { ended ≡ ended_line line.now }
     ensures { result.now ≡ text_of line.now }
 {
     if ended {

@@ -1,7 +1,7 @@
 // Why a client or a step refuses. What a lower layer refuses comes through whole.
 ghost use Rattle.std.specs.Prelude.{◌≡◌};
-ghost use Rattle.protocol.specs.declared.faults.ClientFault.TheVariants.{Store as of-store};
-ghost use Rattle.protocol.specs.declared.faults.StepFault.TheVariants.{Client as of-client};
+ghost use Rattle.protocol.specs.declared.faults.ClientFault.TheVariants.{Store as of_store};
+ghost use Rattle.protocol.specs.declared.faults.StepFault.TheVariants.{Client as of_client};
 
 use messages::faults::StoreFault;
 
@@ -37,7 +37,7 @@ pub enum StepFault {
 }
 
 impl From<StoreFault> for ClientFault {
-    ghost from_gives = { λ fault r. r ≡ of-store fault };
+    ghost from_gives = { λ fault r. r ≡ of_store fault };
 
     fn from(fault: StoreFault) -> ClientFault {
         ClientFault::Store(fault)
@@ -45,7 +45,7 @@ impl From<StoreFault> for ClientFault {
 }
 
 impl From<ClientFault> for StepFault {
-    ghost from_gives = { λ fault r. r ≡ of-client fault };
+    ghost from_gives = { λ fault r. r ≡ of_client fault };
 
     fn from(fault: ClientFault) -> StepFault {
         StepFault::Client(fault)

@@ -2,7 +2,7 @@
 //
 // A `Runner` means a cluster of the protocol. Its one call takes a step: it answers as the protocol defines, leaves
 // the cluster that the protocol defines, and promises that a closed ledger keeps its word after every history that could
-// have led there. `play` takes a list of steps and promises the same of the whole list. Scripts are played on any runner.
+// have led there. `play` takes a list of steps and promises the same of the whole list.
 #![tactic(auto)]
 
 pub mod lists;

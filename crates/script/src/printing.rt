@@ -16,20 +16,20 @@ pub(crate) fn print_answer(
     out: &mut [u8],
     line: u64,
     letter: Option<Letter>,
-    res: Result<i32, Refusal>,
+    outcome: Result<i32, Refusal>,
 ) -> usize
     requires { 128 ≤ length out.old }
-    ensures end { result ≡ length (answer_line line letter res) }
+    ensures end { result ≡ length (answer_line line letter outcome) }
     ensures bound { result ≤ 128 }
-    ensures after { out.new ≡ over (answer_line line letter res) out.old }
+    ensures after { out.new ≡ over (answer_line line letter outcome) out.old }
 {
     let a = put_number(out, 0, line);
     let b = put_byte(out, a, b' ');
     let c = put_byte(out, b, printed_letter(letter));
     let d = put_byte(out, c, b' ');
-    let e = put_number(out, d, printed_refusal(&res));
+    let e = put_number(out, d, printed_refusal(&outcome));
     let f = put_byte(out, e, b' ');
-    let g = put_value(out, f, res);
+    let g = put_value(out, f, outcome);
     put_byte(out, g, b'\n')
 }
 
@@ -58,23 +58,23 @@ fn printed_letter(letter: Option<Letter>) -> u8
     }
 }
 
-fn printed_refusal(res: &Result<i32, Refusal>) -> u64
-    ensures { result ≡ number_of res.now }
+fn printed_refusal(outcome: &Result<i32, Refusal>) -> u64
+    ensures { result ≡ number_of outcome.now }
 {
-    match *res {
+    match *outcome {
         Ok(_) => 0,
         Err(refusal) => u64::from(refusal.number()),
     }
 }
 
 // The value of a step, or the word of a refusal.
-fn put_value(out: &mut [u8], at: usize, res: Result<i32, Refusal>) -> usize
+fn put_value(out: &mut [u8], at: usize, outcome: Result<i32, Refusal>) -> usize
     requires { at + 21 ≤ length out.old }
-    ensures end { result ≡ at + length (value_bytes res) }
+    ensures end { result ≡ at + length (value_bytes outcome) }
     ensures bound { result ≤ at + 21 }
-    ensures after { out.new ≡ paste out.old at (value_bytes res) (length (value_bytes res)) }
+    ensures after { out.new ≡ paste out.old at (value_bytes outcome) (length (value_bytes outcome)) }
 {
-    match res {
+    match outcome {
         Ok(value) => put_signed(out, at, value),
         Err(refusal) => put_number(out, at, refusal.word() as u64),
     }

@@ -1,7 +1,7 @@
 // Why a line is refused: each refusal has a number, and names the first word that by itself fails the question, or 0.
 ghost use Rattle.std.specs.Prelude.{◌≡◌};
 ghost use Rattle.script.specs.Refusals.{refusal_number, refusal_word};
-ghost use Rattle.script.specs.declared.refusals.Refusal.TheVariants.{Line as of-line};
+ghost use Rattle.script.specs.declared.refusals.Refusal.TheVariants.{Line as of_line};
 
 use words::LineFault;
 
@@ -40,7 +40,7 @@ impl Refusal {
 }
 
 impl From<LineFault> for Refusal {
-    ghost from_gives = { λ fault r. r ≡ of-line fault };
+    ghost from_gives = { λ fault r. r ≡ of_line fault };
 
     fn from(fault: LineFault) -> Refusal {
         Refusal::Line(fault)

@@ -18,17 +18,17 @@ impl Writer {
         &mut self,
         bookie: BookieId,
         e: EntryId,
-        res: Result<(), BookieFault>,
+        outcome: Result<(), BookieFault>,
         places: &mut [PendingAdd],
     )
         requires { Row self.old places.old }
         ensures row { Row self.new places.new }
-        ensures after { meant self.new places.new ≡ reply_after (meant self.old places.old) bookie.0 e.0 res }
+        ensures after { meant self.new places.new ≡ reply_after (meant self.old places.old) bookie.0 e.0 outcome }
     {
         if !self.is_writing() {
             return;
         }
-        match res {
+        match outcome {
             Ok(()) => {
                 self.mark(bookie, e, places);
                 self.confirm(places);

@@ -16,11 +16,11 @@ returns c =
     let e = then (32 ∷ []) d c.put_byte-d.ensures.end c.put_byte-d.ensures.after in
     let f = then (decimal c.printed_refusal.result) e c.put_number-e.ensures.end c.put_number-e.ensures.after in
     let g = then (32 ∷ []) f c.put_byte-f.ensures.end c.put_byte-f.ensures.after in
-    let h = then (value_bytes c.args.res) g c.put_value-g.ensures.end c.put_value-g.ensures.after in
+    let h = then (value_bytes c.args.outcome) g c.put_value-g.ensures.end c.put_value-g.ensures.after in
     let i = then (10 ∷ []) h c.put_byte.ensures.end c.put_byte.ensures.after in
-    let value = value_bytes c.args.res in
-    let is : line_with c.args.line c.printed_letter.result c.printed_refusal.result value ≡ answer_line c.args.line c.args.letter c.args.res =
+    let value = value_bytes c.args.outcome in
+    let is : line_with c.args.line c.printed_letter.result c.printed_refusal.result value ≡ answer_line c.args.line c.args.letter c.args.outcome =
     ap (λ x. line_with c.args.line x c.printed_refusal.result value) c.printed_letter.ensures
     ∙ ap (λ n. line_with c.args.line (letter_byte c.args.letter) n value) c.printed_refusal.ensures in
     let all = subst (Wrote c.args.out.now 0 c.put_byte.new.out c.put_byte.result) is i in
-    record { end = all.at ∙ zero-add _; bound = omega arith; after = all.is ∙ over_front c.args.out.now (answer_line c.args.line c.args.letter c.args.res) }
+    record { end = all.at ∙ zero-add _; bound = omega arith; after = all.is ∙ over_front c.args.out.now (answer_line c.args.line c.args.letter c.args.outcome) }
