@@ -1,6 +1,5 @@
 pub mod Limits
 pub mod Ids
 pub mod Tables
-pub mod Padding
 pub mod Bodies
 pub mod BookieLists

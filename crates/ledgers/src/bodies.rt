@@ -1,17 +1,33 @@
 // The content of an entry: at most 40 bytes.
-ghost use Rattle.std.specs.Prelude.{◌≡◌, ◌-◌, ◌≤◌, ◌++◌, length, take, replicate};
+ghost use Rattle.std.specs.Prelude.{◌≡◌, []};
+ghost use Rattle.ledgers.specs.Bodies.{content, body_of, made_body};
+
+use places::short_lists::ShortList;
 
 pub const MAX_BODY: usize = 40;
 
-#[derive(Clone, Copy)]
-pub struct Body {
-    len: usize,
-    bytes: [u8; 40],
-    // Of its 40 places only the first ones count,
-    ghost whole: { length bytes ≡ 40 },
-    ghost short: { len ≤ 40 },
-    // and zeros stand behind them, so that two bodies of one content are one value.
-    ghost padded: { bytes ≡ take len bytes ++ replicate (40 - len) 0 },
-}
+#[derive(Clone, Copy, PartialEq, Eq)]
+pub struct Body(ShortList<u8, MAX_BODY>);
 
-pub mod contents;
+impl Body {
+    // The body with these bytes; none where they are more than an entry takes.
+    pub fn new(content: &[u8]) -> Option<Body>
+        ensures { result ≡ made_body content.now }
+    {
+        Some(Body(ShortList::from_slice(content)?))
+    }
+
+    // The body with no bytes.
+    pub fn empty() -> Body
+        ensures { result ≡ body_of [] }
+    {
+        Body(ShortList::new())
+    }
+
+    // The bytes that count.
+    pub fn as_slice(&self) -> &[u8]
+        ensures { result.now ≡ content self.now }
+    {
+        self.0.as_slice()
+    }
+}

@@ -2,6 +2,8 @@
 use Rattle.std.specs.Prelude.{ℕ, Bool, true, false, Ok, Err, Result}
 use Rattle.messages.specs.declared.faults.BookieFault.{BookieFault}
 use Rattle.messages.specs.declared.faults.BookieFault.TheVariants as bookie
+use Rattle.messages.specs.declared.faults.SetUpFault.{SetUpFault}
+use Rattle.messages.specs.declared.faults.SetUpFault.TheVariants.{JournalSize, ChroniclePlaces}
 use Rattle.messages.specs.declared.faults.StoreFault.{StoreFault}
 use Rattle.messages.specs.declared.faults.StoreFault.TheVariants as store
 
@@ -34,3 +36,8 @@ store_number store.Range = 30
 store_number store.Existence = 31
 store_number store.Version = 32
 store_number store.Full = 33
+
+-- 15, whatever cannot be set up
+abbrev pub set_up_number : SetUpFault → ℕ
+set_up_number JournalSize = 15
+set_up_number ChroniclePlaces = 15

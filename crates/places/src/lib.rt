@@ -8,12 +8,30 @@
 ghost use Rattle.std.specs.Prelude.{◌≡◌, ◌+◌, ◌<◌, ◌≤◌, length, replicate, if◌then◌else◌, nat_lt, slice_index_or, slice_set};
 ghost use Rattle.places.specs.Lists.{closed, Removed};
 
+pub mod short_lists;
+
 // A kind of record that has a blank one.
 pub trait Blank {
     ghost empty: { Self };
 
     fn blank() -> Self
         ensures { result ≡ empty };
+}
+
+impl Blank for u8 {
+    ghost empty = { 0 };
+
+    fn blank() -> u8 {
+        0
+    }
+}
+
+impl Blank for u32 {
+    ghost empty = { 0 };
+
+    fn blank() -> u32 {
+        0
+    }
 }
 
 // One record more behind the others, lost where no place is free. Answers how many there are then.
@@ -55,7 +73,7 @@ fn take_off<T: Blank + Copy>(places: &mut [T], count: usize, at: usize) -> T
 pub fn clear<T: Blank + Copy>(places: &mut [T])
     ensures { places.new ≡ replicate (length places.old) T.empty }
 {
-    for i in 0..places.len() {
-        places[i] = T::blank();
+    for place in places.iter_mut() {
+        *place = T::blank();
     }
 }
