@@ -1,10 +1,18 @@
 -- A loop's turns through the positions of a write set, the write sets of an ensemble, and the fragments of a layout.
-use Rattle.std.proofs.Common.{◌≡◌, ℕ, zero, suc, ◌+◌, ◌%◌, ◌<◌, Bool, true, false, cond, eqb, leb, List, [], ◌∷◌, ◌++◌, get_or, sym, refl, ap, ◌∙◌, ⊎_elim, not-suc-le-zero, add-zero, add-one, arith}
-use Rattle.std.proofs.lemmas.Bool.{and_from, and_left, and_right, cond-true, eq-eqb, cases_eq}
+use Rattle.std.proofs.Common.{◌≡◌, ℕ, zero, suc, ◌+◌, ◌%◌, ◌<◌, Bool, true, false, cond, ◌||◌, eqb, leb, List, [], ◌∷◌, ◌++◌, length, get_or, sym, refl, ap, ◌∙◌, ⊎_elim, not-suc-le-zero, count_by, add-zero, add-one, arith}
+use Rattle.std.proofs.lemmas.Bool.{and_from, and_left, and_right, cases_eq}
+use Rattle.std.proofs.lemmas.Bool.Decides.{nat_tests}
+use Rattle.std.proofs.lemmas.List.Recursion.{is_count_by}
+use Rattle.std.specs.List.{list_any}
 use Rattle.layout.specs.WriteSets.{positions, write_set, tally, member, blocking, covers_below}
 use Rattle.layout.specs.Layouts.{no_fragment, fragment_below}
 use Rattle.layout.specs.declared.fragments.Fragment.{Fragment}
 use Rattle.layout.specs.declared.sizes.Sizes.{Sizes}
+
+-- so many positions
+pub length_positions : (n e m : ℕ) → length (positions n e m) ≡ n
+length_positions zero e m = refl
+length_positions (suc n) e m = ap suc (length_positions n (suc e) m)
 
 -- one position more at the end
 pub positions_push : (n e m : ℕ) → positions (n + 1) e m ≡ positions n e m ++ (((e + n) % m) ∷ [])
@@ -15,40 +23,23 @@ positions_push (suc n) e m =
     ap (λ v. positions v e m) k ∙ ap (λ ps. (e % m) ∷ ps) (positions_push n (suc e) m)
     ∙ ap (λ v. (e % m) ∷ (positions n (suc e) m ++ ((v % m) ∷ []))) j
 
--- one more to count
-tally_push : {A : Type 0} (t : A → Bool) (xs : List A) (x : A) → tally t (xs ++ (x ∷ [])) ≡ tally t xs + cond (t x) 1 0
-tally_push t [] x = elim (t x) as (λ v. cond v 1 0 ≡ 0 + cond v 1 0) [ true ↦ refl | false ↦ refl ]
-tally_push t (y ∷ xs) x = rw (tally_push t xs x) (go (t y) (tally t xs) (cond (t x) 1 0))
+-- what the library counts
+pub tally_counts : {A : Type 0} (t : A → Bool) (xs : List A) → tally t xs ≡ count_by t xs
+tally_counts t xs =
+    is_count_by (tally t) t refl
+    (λ x ys. let more : suc (tally t ys) ≡ 1 + tally t ys = omega arith in ap (λ n. cond (t x) n (tally t ys)) more) xs
+
+eqb_flip : (x y : ℕ) → eqb x y ≡ eqb y x
+eqb_flip x y = grind (arith, nat_tests)
+
+-- what the library looks for
+pub member_found : (x : ℕ) (ys : List ℕ) → member x ys ≡ list_any (λ y. eqb y x) ys
+member_found x [] = refl
+member_found x (y ∷ ys) = rw (member_found x ys) (rw (eqb_flip x y) (go (eqb y x) (list_any (λ z. eqb z x) ys)))
   where
-    go : (v : Bool) (m n : ℕ) → cond v (suc (m + n)) (m + n) ≡ cond v (suc m) m + n
-    go true m n = omega arith
-    go false m n = refl
-
--- one more to look at
-member_push : (x : ℕ) (ys : List ℕ) (y : ℕ) → member x (ys ++ (y ∷ [])) ≡ cond (member x ys) true (eqb x y)
-member_push x [] y = elim (eqb x y) as (λ v. cond v true false ≡ v) [ true ↦ refl | false ↦ refl ]
-member_push x (z ∷ ys) y = rw (member_push x ys y) (inside (eqb x z) (member x ys) (eqb x y))
-  where
-    inside : (u v w : Bool) → cond u true (cond v true w) ≡ cond (cond u true v) true w
-    inside true v w = refl
-    inside false v w = refl
-
--- a turn of a loop that counts, or looks for, positions
-module _ (e m i : ℕ) where
-  pub tally_more : (t : ℕ → Bool) → tally t (positions (i + 1) e m) ≡ tally t (positions i e m) + cond (t ((e + i) % m)) 1 0
-  tally_more t = ap (tally t) (positions_push i e m) ∙ tally_push t (positions i e m) ((e + i) % m)
-
-  pub member_more : (x : ℕ) → member x (positions (i + 1) e m) ≡ cond (member x (positions i e m)) true (eqb x ((e + i) % m))
-  member_more x = ap (member x) (positions_push i e m) ∙ member_push x (positions i e m) ((e + i) % m)
-
--- the i-th of n positions is among them
-pub member_at : (n e m i x : ℕ) → i < n → x ≡ (e + i) % m → member x (positions n e m) ≡ true
-member_at zero e m i x lt is = absurd (not-suc-le-zero lt)
-member_at (suc n) e m zero x lt is = cond-true _ _ _ (eq-eqb x (e % m) (is ∙ ap (λ k. k % m) (add-zero e)))
-member_at (suc n) e m (suc i) x lt is =
-    let j : e + suc i ≡ suc e + i = omega arith in
-    rw (member_at n (suc e) m i x (omega arith) (is ∙ ap (λ k. k % m) j))
-    (elim (eqb x (e % m)) as (λ v. cond v true true ≡ true) [ true ↦ refl | false ↦ refl ])
+    go : (u v : Bool) → cond u true v ≡ (u || v)
+    go true v = refl
+    go false v = refl
 
 -- the write sets below n are covered, and the next one too
 module _ (s : Sizes) (t : ℕ → Bool) where

@@ -1,63 +1,48 @@
 // Marks on positions, by the bookie that stands there.
-ghost use Rattle.std.specs.Prelude.{◌≡◌, ◌≤◌};
-ghost use Rattle.layout.specs.WriteSets.{positions, write_set, ensemble, mark};
+ghost use Rattle.std.specs.Prelude.{◌≡◌, true, slice_set};
+ghost use Rattle.layout.specs.WriteSets.{write_set, ensemble, mark};
 ghost use Rattle.layout.specs.Layouts.{fragment_of, last_fragment};
 
-use crate::fragments::Layout;
-use crate::sizes::Sizes;
-use ledgers::ids::{BookieId, EntryId};
+use crate::fragments::{Fragment, Layout};
+use ledgers::bookie_lists::MAX_ENSEMBLE;
+use ledgers::ids::{BookieId, EntryId, Position};
 
 impl Layout {
     // Marks the position at which a bookie stands in the ensemble of the last fragment, if it does.
     pub fn mark_ensemble(&self, bookie: BookieId, marks: &mut [bool; 5])
         ensures { marks.new ≡ mark (last_fragment self.now).bookies (ensemble self.now.sizes) bookie.0 marks.old }
     {
-        let sizes = self.sizes();
-        let fragment = self.last_fragment();
-        mark_first(
-            &fragment.bookies,
-            &sizes,
-            sizes.ensemble(),
-            EntryId(0),
-            bookie,
-            marks,
-        );
+        let positions = self.sizes().whole_ensemble();
+        mark_first(&self.last_fragment(), positions.as_slice(), bookie, marks);
     }
 
     // Marks the position at which a bookie stands in the write set of an entry, if it does.
     pub fn mark_write_set(&self, e: EntryId, bookie: BookieId, marks: &mut [bool; 5])
         ensures { marks.new ≡ mark (fragment_of self.now e.0).bookies (write_set self.now.sizes e.0) bookie.0 marks.old }
     {
-        let sizes = self.sizes();
-        let fragment = self.fragment_of(e);
-        mark_first(
-            &fragment.bookies,
-            &sizes,
-            sizes.write_quorum(),
-            e,
-            bookie,
-            marks,
-        );
+        let positions = self.sizes().write_set(e);
+        mark_first(&self.fragment_of(e), positions.as_slice(), bookie, marks);
     }
 }
 
-// Marks the first of `width` positions, from that of an entry on, at which the bookie stands.
-fn mark_first(
-    bookies: &[u32; 5],
-    sizes: &Sizes,
-    width: u32,
-    e: EntryId,
-    bookie: BookieId,
-    marks: &mut [bool; 5],
-)
-    requires { width ≤ 5 }
-    ensures { marks.new ≡ mark bookies.now (positions width e.0 sizes.now.ensemble) bookie.0 marks.old }
+// Marks the first of these positions at which the bookie stands in a fragment.
+fn mark_first(fragment: &Fragment, positions: &[u32], bookie: BookieId, marks: &mut [bool; 5])
+    ensures { marks.new ≡ mark fragment.now.bookies positions.now bookie.0 marks.old }
 {
-    for i in 0..width {
-        let p = sizes.position(e, i).0 as usize;
-        if bookies[p] == bookie.0 {
-            marks[p] = true;
+    for position in positions {
+        if fragment.bookie(Position(*position)) == bookie {
+            set_mark(marks, *position);
             return;
         }
+    }
+}
+
+// Marks a position, if there can be one.
+fn set_mark(marks: &mut [bool; 5], position: u32)
+    ensures { marks.new ≡ slice_set marks.old position true }
+{
+    let at = position as usize;
+    if at < MAX_ENSEMBLE {
+        marks[at] = true;
     }
 }

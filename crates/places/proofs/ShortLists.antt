@@ -5,8 +5,8 @@ use mathlib.Core.List.{is_set}
 use mathlib.Core.Logic.{∥∥₁_elim, ∥∥₁_prop}
 use native.Mathlib.Bridge.{le_prop}
 use native.Mathlib.Nat.{ℕ_set}
-use Rattle.std.proofs.lemmas.List.{take_all, take_at, length-take, length-take-le, drop-replicate}
-use Rattle.places.specs.Padding.{padded, padded_again}
+use Rattle.std.proofs.lemmas.List.{take-append-drop, take_all, take_at, length-take, length-take-le, drop-replicate}
+use Rattle.places.specs.Padding.{padded, blank_behind}
 use Rattle.places.specs.ShortLists.{listed, short_list}
 use Rattle.places.specs.declared.Blank.{Ghosts}
 use Rattle.places.specs.declared.short_lists.ShortList.{ShortList}
@@ -22,11 +22,11 @@ module _ {A : Type 0} (blank : A) (room : ℕ) (xs : List A) where
       ∙ ap (λ behind. take room xs ++ behind) (drop-replicate {X = A} (length xs) room blank ∙ ap (λ k. replicate (room - k) blank) least)
 
   -- the fact that the type asks for
-  pub stays_padded : (items : List A) (n : ℕ) → n ≡ min room (length xs) → items ≡ padded blank room xs
-      → items ≡ take n items ++ replicate (room - n) blank
-  stays_padded items n least is =
-      is ∙ padded_again blank room xs ∙ ap (λ k. take k (padded blank room xs) ++ replicate (room - k) blank) (sym least)
-      ∙ ap (λ all. take n all ++ replicate (room - n) blank) (sym is)
+  pub stays_padded : (places : List A) (n : ℕ) → n ≡ min room (length xs) → places ≡ padded blank room xs
+      → drop n places ≡ replicate (room - n) blank
+  stays_padded places n least is =
+      ap (drop n) is ∙ ap (λ k. drop k (padded blank room xs)) least ∙ blank_behind blank room xs
+      ∙ ap (λ k. replicate (room - k) blank) (sym least)
 
   -- a list that the room takes is found in front of its padding
   pub front_padded : length xs ≤ room → take (min room (length xs)) (padded blank room xs) ≡ xs
@@ -35,10 +35,11 @@ module _ {A : Type 0} (blank : A) (room : ℕ) (xs : List A) where
 
 -- the front of a padded list, padded again
 repadded : {A : Type 0} (blank : A) (room n : ℕ) (items : List A) → length (take n items) ≡ n → n ≤ room
-    → items ≡ take n items ++ replicate (room - n) blank → items ≡ padded blank room (take n items)
-repadded blank room n items long few is =
+    → drop n items ≡ replicate (room - n) blank → items ≡ padded blank room (take n items)
+repadded blank room n items long few behind =
     let least : n ≡ min room (length (take n items)) = omega arith in
-    is ∙ ap (λ k. take n items ++ replicate (room - k) blank) least
+    sym (take-append-drop n items) ∙ ap (λ ys. take n items ++ ys) behind
+    ∙ ap (λ k. take n items ++ replicate (room - k) blank) least
     ∙ ap (λ front. front ++ replicate (room - min room (length (take n items))) blank) (sym (take_all room (take n items) (omega arith)))
 
 module _ {A : Type 0} {room : ℕ} {kind : Ghosts A} where
@@ -51,7 +52,7 @@ module _ {A : Type 0} {room : ℕ} {kind : Ghosts A} where
         whole = is_prop→PathP (λ j. length (xs j) ≡ room) (λ j. ℕ_set (length (xs j)) room) a.whole b.whole i;
         few = is_prop→PathP (λ j. n j ≤ room) (λ j. le_prop) a.few b.few i;
         clear =
-            is_prop→PathP (λ j. ∥ xs j ≡ take (n j) (xs j) ++ replicate (room - n j) kind.empty ∥₁) (λ j. ∥∥₁_prop) a.clear b.clear i;
+            is_prop→PathP (λ j. ∥ drop (n j) (xs j) ≡ replicate (room - n j) kind.empty ∥₁) (λ j. ∥∥₁_prop) a.clear b.clear i;
       }
 
   pub length_listed : (xs : ShortList A room kind) → length (listed xs) ≡ xs.count
@@ -66,5 +67,5 @@ pub short_of_listed : {A : Type 0} {room : ℕ} {kind : Ghosts A} → IsSet A �
 short_of_listed {A} {room} {kind} set xs =
     let long = length_listed xs in
     let few = xs.few in
-    let clear = ∥∥₁_elim xs.clear (is_set set xs.items (take xs.count xs.items ++ replicate (room - xs.count) kind.empty)) (λ c. c) in
+    let clear = ∥∥₁_elim xs.clear (is_set set (drop xs.count xs.items) (replicate (room - xs.count) kind.empty)) (λ c. c) in
     sym (short_same xs (short_list (listed xs)) (omega arith) (repadded kind.empty room xs.count xs.items long few clear))

@@ -1,7 +1,7 @@
 -- Lists of a few records, and the records that they hold.
 use Rattle.std.specs.Prelude.{ℕ, min, cond, List, length, take, Some, None, Option, nat_le}
 use Rattle.std.proofs.Common.{arith}
-use Rattle.places.specs.Padding.{padded, length_padded, padded_again}
+use Rattle.places.specs.Padding.{padded, length_padded, blank_behind}
 use Rattle.places.specs.declared.Blank.{Ghosts}
 use Rattle.places.specs.declared.short_lists.ShortList.{ShortList}
 
@@ -17,7 +17,7 @@ module _ {A : Type 0} {room : ℕ} {kind : Ghosts A} where
     items = padded kind.empty room xs;
     whole = length_padded kind.empty room xs;
     few = omega arith;
-    clear = ∣ padded_again kind.empty room xs ∣₁;
+    clear = ∣ blank_behind kind.empty room xs ∣₁;
   }
 
   -- the list of these records, if there is room for all of them

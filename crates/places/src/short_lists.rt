@@ -1,5 +1,5 @@
 // Lists of a few records, in memory of their own that is fixed.
-ghost use Rattle.std.specs.Prelude.{◌≡◌, ◌-◌, ◌≤◌, ◌++◌, length, take, replicate, ⊤};
+ghost use Rattle.std.specs.Prelude.{◌≡◌, ◌-◌, ◌≤◌, length, drop, replicate, ⊤};
 
 use crate::Blank;
 use std::alloc::AllocError;
@@ -12,7 +12,7 @@ pub struct ShortList<T: Blank, const N: usize> {
     ghost whole: { length items ≡ N },
     ghost few: { count ≤ N },
     // and blanks stand behind them, so that two lists of the same records are one value.
-    ghost clear: { ∥ items ≡ take count items ++ replicate (N - count) T.empty ∥₁ },
+    ghost clear: { ∥ drop count items ≡ replicate (N - count) T.empty ∥₁ },
 }
 
 // A list is as plain as its records: it is copied bit by bit.

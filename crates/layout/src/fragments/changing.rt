@@ -1,5 +1,6 @@
 // The layout of a new ledger, and the one after an ensemble change.
 ghost use Rattle.std.specs.Prelude.{◌≡◌, slice_set};
+ghost use Rattle.ledgers.specs.BookieLists.{by_position};
 ghost use Rattle.layout.specs.Layouts.{first_layout, room_for, changed_place, changed_fragment, changed_layout};
 ghost use Rattle.layout.specs.Rising.{Rising, Onward};
 
@@ -11,7 +12,7 @@ use ledgers::ids::{BookieId, EntryId, Position};
 impl Layout {
     // The layout of a new ledger: one fragment, from entry 0 on, with these bookies by position.
     pub fn first(sizes: Sizes, bookies: &BookieList) -> Layout
-        ensures layout { result ≡ first_layout sizes bookies.now.numbers }
+        ensures layout { result ≡ first_layout sizes (by_position bookies.now) }
         ensures rising { Rising result }
     {
         Layout::single(sizes, bookies)
@@ -19,11 +20,11 @@ impl Layout {
 
     // The layout with a single fragment.
     fn single(sizes: Sizes, bookies: &BookieList) -> Layout
-        ensures layout { result ≡ first_layout sizes bookies.now.numbers }
+        ensures layout { result ≡ first_layout sizes (by_position bookies.now) }
         ensures rising { Rising result }
     {
         let mut fragments = [Fragment::blank(); MAX_FRAGMENTS];
-        fragments[0].bookies = by_position(bookies);
+        fragments[0].bookies = bookies.by_position();
         Layout {
             sizes,
             fragments,
@@ -35,7 +36,7 @@ impl Layout {
     pub fn has_room(&self, first: EntryId) -> bool
         ensures { result ≡ room_for self.now first.0 }
     {
-        self.last_fragment().first.0 == first.0 || self.count < MAX_FRAGMENTS
+        self.last_fragment().first == first || self.count < MAX_FRAGMENTS
     }
 
     // The layout with a bookie put at a position from an entry on: the last fragment is altered if it begins there, and
@@ -66,24 +67,12 @@ impl Layout {
     fn place_from(&self, first: EntryId) -> usize
         ensures { result ≡ changed_place self.now first.0 }
     {
-        if self.last_fragment().first.0 == first.0 {
+        if self.last_fragment().first == first {
             self.count - 1
         } else {
             self.count
         }
     }
-}
-
-// The bookies of a list by position, with zeros behind them.
-fn by_position(bookies: &BookieList) -> [u32; 5]
-    ensures { result ≡ bookies.now.numbers }
-{
-    let listed = bookies.as_slice();
-    let mut numbers = [0; MAX_ENSEMBLE];
-    if listed.len() <= MAX_ENSEMBLE {
-        numbers[0..listed.len()].copy_from_slice(listed);
-    }
-    numbers
 }
 
 // The list with a number put at a position, if it has that position.

@@ -17,6 +17,14 @@ impl Fragment {
             bookies: [0; MAX_ENSEMBLE],
         }
     }
+
+    // The bookie at a position; 0 past the positions that a fragment has.
+    pub fn bookie(&self, position: Position) -> BookieId
+        ensures { result.0 ≡ slice_index self.now.bookies position.0 }
+    {
+        let number = self.bookies.get(position.0 as usize);
+        BookieId(number.copied().unwrap_or(0))
+    }
 }
 
 impl Layout {
@@ -31,9 +39,9 @@ impl Layout {
         ensures { result ≡ fragment_of self.now e.0 }
     {
         let mut found = Fragment::blank();
-        for i in 0..self.count {
-            if self.fragments[i].first.0 <= e.0 {
-                found = self.fragments[i];
+        for fragment in &self.fragments[..self.count] {
+            if fragment.first <= e {
+                found = *fragment;
             }
         }
         found
@@ -49,14 +57,6 @@ impl Layout {
     pub fn bookie_at(&self, e: EntryId, position: Position) -> BookieId
         ensures { result.0 ≡ bookie_at self.now e.0 position.0 }
     {
-        BookieId(number_at(self.fragment_of(e).bookies, position))
+        self.fragment_of(e).bookie(position)
     }
-}
-
-// The number at a position, 0 past the list.
-fn number_at(bookies: [u32; 5], position: Position) -> u32
-    ensures { result ≡ slice_index bookies position.0 }
-{
-    let at = position.0 as usize;
-    if at < MAX_ENSEMBLE { bookies[at] } else { 0 }
 }

@@ -25,25 +25,18 @@ impl Sizes {
     pub fn writes_to(&self, e: EntryId, position: Position) -> bool
         ensures { result ≡ member position.0 (write_set self.now e.0) }
     {
-        for offset in 0..self.write {
-            if self.position(e, offset).0 == position.0 {
-                return true;
-            }
-        }
-        false
+        self.write_set(e).as_slice().contains(&position.0)
     }
 
     // How many of the positions that an entry is written to are marked.
     pub fn marked(&self, e: EntryId, marks: &[bool; 5]) -> u32
         ensures { result ≡ tally (marked marks.now) (write_set self.now e.0) }
     {
-        let mut n = 0;
-        for i in 0..self.write {
-            if marks[self.position(e, i).0 as usize] {
-                n += 1;
-            }
-        }
-        n
+        self.write_set(e)
+            .as_slice()
+            .iter()
+            .filter(|position| is_marked(marks, **position))
+            .count() as u32
     }
 
     // Whether the marked positions cover the ensemble: no write set has an ack quorum without one of them.
@@ -64,4 +57,11 @@ impl Sizes {
     {
         self.marked(e, marks) >= self.blocking()
     }
+}
+
+// Whether a position is marked; one that there cannot be is not.
+fn is_marked(marks: &[bool; 5], position: u32) -> bool
+    ensures { result ≡ marked marks.now position }
+{
+    marks.get(position as usize).copied().unwrap_or(false)
 }

@@ -1,9 +1,10 @@
 // Short lists from records, and back.
 ghost use Rattle.std.specs.Prelude.{◌≡◌, ◌≤◌, [], ◌++◌, length, drop};
+ghost use Rattle.places.specs.Lists.{posted};
 ghost use Rattle.places.specs.ShortLists.{listed, short_list, made_short};
 
 use super::ShortList;
-use crate::Blank;
+use crate::{Blank, append};
 
 impl<T: Blank + Copy, const N: usize> ShortList<T, N> {
     // The list with no records.
@@ -35,6 +36,13 @@ impl<T: Blank + Copy, const N: usize> ShortList<T, N> {
     {
         let places = &self.items[..];
         &places[..self.count]
+    }
+
+    // One record more behind the others, lost where no place is free.
+    pub fn push(&mut self, item: T)
+        ensures { listed self.new ≡ posted N (listed self.old) item }
+    {
+        self.count = append(&mut self.items[..], self.count, item);
     }
 
     // All places: the records, and blanks behind them.

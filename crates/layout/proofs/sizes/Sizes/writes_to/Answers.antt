@@ -1,16 +1,11 @@
-use Rattle.std.proofs.Common.{sym, arith}
-use Rattle.std.proofs.lemmas.Bool.Decides.{nat_tests}
-use Rattle.layout.proofs.Turns.{member_at, member_more}
+use Rattle.std.proofs.Common.{◌≡◌, sym, ◌∙◌, rules, eqb}
+use Rattle.std.specs.List.{list_any}
+use Rattle.layout.specs.WriteSets.{write_set}
+use Rattle.layout.proofs.Turns.{member_found}
 use Rattle.layout.proofs.sizes.Sizes.writes_to.Goals as goal
 
-pub returns-then-position : goal.returns-then-position
-returns-then-position c =
-    let s = c.args.self.now in
-    sym (member_at s.write c.args.e.0 s.ensemble c.loop-offset.offset c.args.position.0 (omega arith)
-    (omega (arith, c.position.ensures.value)))
-
-pub loop-offset-preserved : goal.loop-offset-preserved
-loop-offset-preserved c =
-    let more = member_more c.args.e.0 c.args.self.now.ensemble c.loop-offset.offset c.args.position.0 in
-    let here = c.position.ensures.value in
-    grind (arith, nat_tests)
+pub returns : goal.returns
+returns c =
+    let set = write_set c.args.self.now c.args.e.0 in
+    let found : c.contains.result ≡ list_any (λ p. eqb p c.args.position.0) set = search rules in
+    found ∙ sym (member_found c.args.position.0 set)
