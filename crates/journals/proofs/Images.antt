@@ -6,7 +6,7 @@ use Rattle.ledgers.specs.Bodies.{content, body_of, made_body}
 use Rattle.ledgers.specs.declared.bodies.Body.{Body}
 use Rattle.ledgers.specs.Limits.{is_ledger, is_entry}
 use Rattle.ledgers.specs.Ids.{ledger_id, entry_id, lac_id}
-use Rattle.ledgers.proofs.Same.{length_content, made_of_content}
+use Rattle.ledgers.proofs.Same.{content_short, body_of_content}
 use Rattle.messages.specs.declared.entries.Held.{Held}
 use Rattle.protocol.specs.Bookies.{add_fits}
 use Rattle.journals.specs.Numbers.{bytes4, le2, le4}
@@ -50,19 +50,13 @@ body_read part n k b is made =
     made_is (take (min 40 k) (drop 12 part)) b (omega (arith, length-take (min 40 k) (drop 12 part)))
     (made ∙ ap (λ j. made_body (take j (drop 12 part))) m)
 
-body_back : (b : Body) → body_of (content b) ≡ b
-body_back b =
-    let short = b.short in
-    sym (made_is (content b) b (omega (arith, length_content b)) (sym (made_of_content b)))
-
 pub image_long : (h : Held) → length (record_image h) ≡ 52
 unfolding record_image
 image_long h =
-    let short = h.body.short in
-    let long = length_content h.body in
+    let short = content_short h.body in
     let tail = length-append (content h.body) (replicate (40 - length (content h.body)) 0) in
     let zeros = length-replicate {A = ℕ} (40 - length (content h.body)) 0 in
-    omega (arith, short, long, tail, zeros)
+    omega (arith, short, tail, zeros)
 
 -- the numbers of an entry that there can be have room in a record
 record Small (h : Held) : Type 0 where
@@ -86,11 +80,11 @@ unfolding record_image record_of le2 le4
 image_says h fit =
     let s = small h fit in
     let bytes = content h.body in
-    let short : length bytes ≤ 40 = let few = h.body.short in omega (arith, length_content h.body) in
+    let short = content_short h.body in
     let n : min 40 (le2 (record_image h) 2) ≡ length bytes = omega (arith, short, whole2 (length bytes) (omega (arith, short))) in
     let t : take (length bytes) (bytes ++ replicate (40 - length bytes) 0) ≡ bytes = take_at bytes _ _ refl in
     let b : body_of (take (min 40 (le2 (record_image h) 2)) (drop 12 (record_image h))) ≡ h.body =
-    ap (λ k. body_of (take k (bytes ++ replicate (40 - length bytes) 0))) n ∙ ap body_of t ∙ body_back h.body in
+    ap (λ k. body_of (take k (bytes ++ replicate (40 - length bytes) 0))) n ∙ ap body_of t ∙ body_of_content h.body in
     λ i.
     record {
       ledger = ledger_id (whole2 h.ledger.0 s.ledger i);

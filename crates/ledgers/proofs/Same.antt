@@ -15,19 +15,23 @@ pub listed_of : (bs : List ℕ) → length bs ≤ 5 → listed (list_of bs) ≡ 
 listed_of bs few = listed_short 5 _ bs few
 
 module _ (b : Body) where
-  pub length_content : length (content b) ≤ 40
-  length_content = let few = b.0.few in omega (arith, length_listed_numbers b.0)
+  pub content_short : length (content b) ≤ 40
+  content_short = let few = b.0.few in omega (arith, length_listed_numbers b.0)
+
+  pub body_of_content : body_of (content b) ≡ b
+  body_of_content = ap (λ xs. record { 0 = xs }) (short_of_listed ℕ_set b.0)
 
   pub made_of_content : made_body (content b) ≡ Some b
-  made_of_content =
-      cond-true _ _ _ (le-leb (length (content b)) 40 length_content)
-      ∙ ap (λ xs. Some (record { 0 = xs })) (short_of_listed ℕ_set b.0)
+  made_of_content = cond-true _ _ _ (le-leb (length (content b)) 40 content_short) ∙ ap Some body_of_content
 
 module _ (b : BookieList) where
-  pub length_listed : length (listed b) ≤ 5
-  length_listed = let few = b.0.few in omega (arith, length_listed_numbers b.0)
+  pub length_listed : length (listed b) ≡ b.0.count
+  length_listed = length_listed_numbers b.0
+
+  pub listed_few : length (listed b) ≤ 5
+  listed_few = let few = b.0.few in omega (arith, length_listed)
 
   pub made_of_listed : made_list (listed b) ≡ Some b
   made_of_listed =
-      cond-true _ _ _ (le-leb (length (listed b)) 5 length_listed)
+      cond-true _ _ _ (le-leb (length (listed b)) 5 listed_few)
       ∙ ap (λ xs. Some (record { 0 = xs })) (short_of_listed ℕ_set b.0)

@@ -11,7 +11,7 @@ use Rattle.std.proofs.lemmas.Bool.Decides.{nat_tests}
 use Rattle.ledgers.specs.Limits.{is_ledger}
 use Rattle.ledgers.specs.Ids.{ledger_id, bookie_id, position_id, message_place, recoverer_id}
 use Rattle.ledgers.specs.Bodies.{content, body_of}
-use Rattle.ledgers.specs.BookieLists.{list_of}
+use Rattle.ledgers.specs.BookieLists.{listed, list_of}
 use Rattle.ledgers.proofs.Same.{content_of, listed_of}
 use Rattle.ledgers.specs.declared.bodies.Body.{Body}
 use Rattle.ledgers.specs.declared.steps.Step.{Step}
@@ -230,7 +230,7 @@ of_create (l ∷ n ∷ w ∷ k ∷ xs) s e =
       letter = refl;
       numbers = ap (λ bs. l ∷ n ∷ w ∷ k ∷ bs) (listed_of xs few);
       bare = refl;
-      said = lt-ltb 0 (min 5 (length xs)) (omega arith);
+      said = lt-ltb 0 (length (listed (list_of xs))) (omega (arith, some, ap length (listed_of xs few)));
     })
   where
     same : {t : Step} → Some t ≡ Some s → t ≡ s

@@ -8,7 +8,7 @@ use Rattle.ledgers.specs.Limits.{is_ledger}
 use Rattle.ledgers.specs.Ids.{ledger_id}
 use Rattle.ledgers.specs.Bodies.{content}
 use Rattle.ledgers.specs.BookieLists.{listed, made_list}
-use Rattle.ledgers.proofs.Same.{length_content, made_of_content, length_listed, made_of_listed}
+use Rattle.ledgers.proofs.Same.{content_short, made_of_content, listed_few, made_of_listed}
 use Rattle.ledgers.specs.declared.bodies.Body.{Body}
 use Rattle.ledgers.specs.declared.bookie_lists.BookieList.{BookieList}
 use Rattle.ledgers.specs.declared.ids.LedgerId.{LedgerId}
@@ -154,9 +154,8 @@ create_listed l e w k (a ∷ b ∷ c ∷ d ∷ f ∷ g ∷ xs) some few = absurd
 
 create_back : (l : LedgerId) (e w k : ℕ) (bs : BookieList) → InScript (Create l e w k bs) → read_line (written (Create l e w k bs)) ≡ Ok (Create l e w k bs)
 create_back l e w k bs h =
-    let long = length_listed bs in
-    let few = bs.few in
-    let some = ltb-true 0 bs.count h.said in
+    let few = listed_few bs in
+    let some = ltb-true 0 (length (listed bs)) h.said in
     numbers_back (Create l e w k bs) h refl refl (omega arith)
     (create_listed l.0 e w k (listed bs) (omega arith) (omega arith) ∙ ap (created l.0 e w k) (made_of_listed bs))
 
@@ -168,8 +167,7 @@ append_back l b h =
     let tail = (digits ++ []) ++ text_part in
     let is : tail ≡ digits ++ text_part = ap (λ d. d ++ text_part) (append-nil digits) in
     let inners = inner_decimal l.0 h.short.0 in
-    let long = length_content b in
-    let short = b.short in
+    let short = content_short b in
     let ranged : is_ledger l.0 ≡ true = grind (arith, nat_tests, h.ranged) in
     by_its_letter letter.Append (32 ∷ tail) refl
     (omega (arith, few_digits l.0 h.short.0, length-append digits text_part, ap length is))

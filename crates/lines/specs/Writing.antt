@@ -1,5 +1,5 @@
 -- The line that is written for a step, and what it promises to be read as.
-use Rattle.std.specs.Prelude.{◌≡◌, ℕ, ◌<◌, Bool, true, List, [], ◌∷◌, ◌++◌, Ok, decimal, nat_lt}
+use Rattle.std.specs.Prelude.{◌≡◌, ℕ, ◌<◌, Bool, true, List, [], ◌∷◌, ◌++◌, Ok, decimal, nat_lt, length}
 use Rattle.std.specs.List.{AllByRecursion}
 use Rattle.ledgers.specs.Bodies.{content}
 use Rattle.ledgers.specs.BookieLists.{listed}
@@ -70,7 +70,7 @@ written s = (byte_of (letter_for s) ∷ spaced (numbers_in s) ++ text_in s) ++ 1
 
 -- what a script can say beyond its ranges of numbers: a create names a bookie, and a text can be printed
 abbrev pub sayable : Step → Bool
-sayable (Create l e w k bs) = nat_lt 0 bs.count
+sayable (Create l e w k bs) = nat_lt 0 (length (listed bs))
 sayable (Append l b) = printable (content b)
 sayable (Resend l) = true
 sayable (ChangeEnsemble l p b) = true

@@ -6,7 +6,7 @@ use Rattle.std.proofs.lemmas.List.{get_or-set_same, get_or-set_other, get_or_app
 use Rattle.std.proofs.lemmas.Bool.{and_parts, both_ways, not-true, true≢false, cond_both, cond-true, cond-false, eqb-true, eqb-false, ltb-true, le-leb, lt-leb, or_cases}
 use Rattle.ledgers.specs.Limits.{max_entries, max_fragments, max_pending, is_ledger}
 use Rattle.ledgers.specs.Ids.{bookie_id, entry_id, lac_id, version_id}
-use Rattle.ledgers.specs.BookieLists.{listed}
+use Rattle.ledgers.specs.BookieLists.{listed, by_position}
 use Rattle.ledgers.specs.declared.bodies.Body.{Body}
 use Rattle.ledgers.specs.declared.bookie_lists.BookieList.{BookieList}
 use Rattle.ledgers.specs.declared.ids.BookieId.{BookieId}
@@ -57,12 +57,12 @@ take_length (suc n) [] = refl
 take_length (suc n) (x ∷ xs) = ap (λ ys. x ∷ ys) (take_length n xs)
 
 -- one different bookie for each position
-listed_ok : (s : Sizes) (bs : BookieList) → (eqb (length (listed bs)) s.ensemble && distinct (listed bs)) ≡ true → LayoutOk (first_layout s bs.numbers)
+listed_ok : (s : Sizes) (bs : BookieList) → (eqb (length (listed bs)) s.ensemble && distinct (listed bs)) ≡ true → LayoutOk (first_layout s (by_position bs))
 listed_ok s bs h =
     let p = and_parts (eqb (length (listed bs)) s.ensemble) (distinct (listed bs)) h in
     let n : length (listed bs) ≡ s.ensemble = eqb-true (length (listed bs)) s.ensemble p.0 in
-    first_layout_ok s bs.numbers (let k = length-take bs.count bs.numbers in omega arith)
-    (subst (λ (k : ℕ). distinct (take k bs.numbers) ≡ true) n (rw (take_length bs.count bs.numbers) p.1))
+    first_layout_ok s (by_position bs) (let k = length-take bs.0.count (by_position bs) in omega arith)
+    (subst (λ (k : ℕ). distinct (take k (by_position bs)) ≡ true) n (rw (take_length bs.0.count (by_position bs)) p.1))
 
 -- a ledger is created
 pub create_keeps : {x₀ : World} (ns : List Note) (c : Cluster) (l : LedgerId) (e w k : ℕ) (bs : BookieList) → InvAt x₀ ns c
@@ -103,8 +103,8 @@ create_keeps {x₀} ns c l e w k bs i =
     sized None = i
     sized (Some s) =
         ask_cases c K (eqb (length (listed bs)) s.ensemble && distinct (listed bs)) (fault.Client client.Ensemble) _ i
-        (λ q6. create_cases c.store l (λ r st. K (by_client c (by_store r) (created c l (first_layout s bs.numbers) st)))
-        (first_layout s bs.numbers) (λ f. i) (made (first_layout s bs.numbers) (listed_ok s bs q6) refl))
+        (λ q6. create_cases c.store l (λ r st. K (by_client c (by_store r) (created c l (first_layout s (by_position bs)) st)))
+        (first_layout s (by_position bs)) (λ f. i) (made (first_layout s (by_position bs)) (listed_ok s bs q6) refl))
 
 -- append -------------------------------------------------------------------------------------------------------------
 -- contents and pending adds end at the same entry

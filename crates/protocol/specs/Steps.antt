@@ -3,7 +3,7 @@ use Rattle.std.specs.Prelude.{ℕ, ◌+◌, Bool, true, false, not, ◌&&◌, lt
 use Rattle.std.specs.List.{prefix_len}
 use Rattle.ledgers.specs.Limits.{is_recoverer}
 use Rattle.ledgers.specs.Ids.{lac_id}
-use Rattle.ledgers.specs.BookieLists.{listed}
+use Rattle.ledgers.specs.BookieLists.{listed, by_position}
 use Rattle.ledgers.specs.declared.bodies.Body.{Body}
 use Rattle.ledgers.specs.declared.bookie_lists.BookieList.{BookieList}
 use Rattle.ledgers.specs.declared.ids.BookieId.{BookieId}
@@ -81,7 +81,7 @@ create_sized c l bs None = refuse c (fault.Client client.Ensemble)
 create_sized c l bs (Some s) =
     ask c (length (listed bs) == s.ensemble && distinct (listed bs)) (fault.Client client.Ensemble)
     (by_client c (by_store (create_answer c.store l))
-    (created c l (first_layout s bs.numbers) (create_after c.store l (first_layout s bs.numbers))))
+    (created c l (first_layout s (by_position bs)) (create_after c.store l (first_layout s (by_position bs)))))
 
 -- how many of the bookies exist, up to the first that does not
 abbrev pub existing : Cluster → BookieList → ℕ

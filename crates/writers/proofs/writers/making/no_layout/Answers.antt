@@ -1,5 +1,5 @@
 use Rattle.std.proofs.Common.{◌≡◌, [], ap, ◌∙◌}
-use Rattle.ledgers.specs.BookieLists.{list_of}
+use Rattle.ledgers.specs.BookieLists.{by_position, list_of}
 use Rattle.ledgers.specs.declared.bookie_lists.BookieList.{BookieList}
 use Rattle.layout.specs.Sizes.{sizes_of}
 use Rattle.layout.specs.Layouts.{first_layout}
@@ -11,5 +11,5 @@ returns c =
     let none = c.in-Some-new.ensures in
     let sizes : c.in-Some.sizes ≡ sizes_of 1 1 1 = cc in
     let bookies : c.in-Some-new.bookies ≡ list_of [] = cc in
-    c.first.ensures.layout ∙ ap (λ s. first_layout s c.in-Some-new.bookies.numbers) sizes
-    ∙ ap (λ (b : BookieList). first_layout (sizes_of 1 1 1) b.numbers) bookies
+    c.first.ensures.layout ∙ ap (λ s. first_layout s (by_position c.in-Some-new.bookies)) sizes
+    ∙ ap (λ (b : BookieList). first_layout (sizes_of 1 1 1) (by_position b)) bookies
