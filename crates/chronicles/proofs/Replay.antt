@@ -9,7 +9,7 @@ use Rattle.ledgers.specs.Tables.{row, numbered}
 use Rattle.layout.specs.WriteSets.{tally}
 use Rattle.messages.specs.declared.metadata.Metadata.{Metadata}
 use Rattle.protocol.specs.Stores.{known}
-use Rattle.stores.proofs.Rows.{row_of, has_row, none_numbered}
+use Rattle.ledgers.proofs.Rows.{row_of, has_row, none_numbered}
 use Rattle.chronicles.specs.Replays.{noted, changed, replayed, of_ledger}
 use Rattle.chronicles.specs.declared.changes.Change.{Change}
 

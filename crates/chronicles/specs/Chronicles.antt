@@ -4,14 +4,14 @@ use Rattle.ledgers.specs.declared.ids.Lac.{Lac}
 use Rattle.ledgers.specs.declared.ids.LedgerId.{LedgerId}
 use Rattle.layout.specs.declared.fragments.Layout.{Layout}
 use Rattle.messages.specs.Faults.{when_ok}
+use Rattle.messages.specs.declared.faults.SetUpFault.{SetUpFault}
+use Rattle.messages.specs.declared.faults.SetUpFault.TheVariants.{ChroniclePlaces}
 use Rattle.messages.specs.declared.metadata.LedgerState.{LedgerState}
 use Rattle.messages.specs.declared.metadata.Metadata.{Metadata}
 use Rattle.stores.specs.Meaning.{store, new_store}
 use Rattle.chronicles.specs.Replays.{replayed}
 use Rattle.chronicles.specs.declared.changes.Change.{Change}
 use Rattle.chronicles.specs.declared.chronicle.Chronicle.{Chronicle}
-use Rattle.chronicles.specs.declared.chronicle.SetUpFault.{SetUpFault}
-use Rattle.chronicles.specs.declared.chronicle.SetUpFault.TheVariants.{Places}
 
 -- as many places as this, and no more
 abbrev pub max_changes : ℕ
@@ -44,7 +44,4 @@ places_after r c x = when_ok r (slice_set c.places.now c.made x) c.places.now
 -- n places make a new store with n changes, and more than 60,000 are refused
 abbrev pub SetUp : ℕ → Result Chronicle SetUpFault → Type 0
 SetUp n (Ok c) = (n ≤ max_changes) × (store chronicle_ledgers chronicle_changes c ≡ new_store n) × (history c ≡ [])
-SetUp n (Err f) = max_changes < n
-
-abbrev pub set_up_number : SetUpFault → ℕ
-set_up_number Places = 15
+SetUp n (Err f) = (f ≡ ChroniclePlaces) × (max_changes < n)

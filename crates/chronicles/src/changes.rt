@@ -7,7 +7,6 @@ ghost use Rattle.chronicles.specs.Replays.{noted, replayed};
 use layout::fragments::Layout;
 use ledgers::ids::{Lac, LedgerId, Version};
 use messages::metadata::{LedgerState, Metadata};
-use stores::questions::is_ledger;
 
 // What the ledger's record is from then on. The version is not noted: it is how many changes of the ledger there are.
 #[derive(Clone, Copy)]
@@ -24,10 +23,7 @@ impl Change {
         requires { (known kept).version.0 < 4294967295 }
         ensures { result ≡ noted kept self.now }
     {
-        let earlier = match kept {
-            Some(metadata) => metadata.version.0,
-            None => 0,
-        };
+        let earlier = kept.map_or(0, |metadata| metadata.version.0);
         Metadata {
             version: Version(earlier + 1),
             state: self.state,
@@ -42,12 +38,12 @@ pub(crate) fn latest(changes: &[Change], ledger: LedgerId) -> Option<Metadata>
     requires { length changes.now < 4294967296 }
     ensures { result ≡ numbered (replayed changes.now) ledger.0 None }
 {
-    if !is_ledger(ledger) {
+    if !ledger.is_in_range() {
         return None;
     }
     let mut found = None;
     for change in changes {
-        if change.ledger.0 == ledger.0 {
+        if change.ledger == ledger {
             found = Some(change.after(found));
         }
     }

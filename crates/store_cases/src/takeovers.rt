@@ -10,7 +10,6 @@ use messages::metadata::LedgerState;
 use std::process::Abort;
 use std::test::Fail;
 use stores::calls::Store;
-use stores::faults::number;
 use stores::table::Table;
 
 fn some_layout() -> Option<Layout> {
@@ -32,7 +31,7 @@ fn some_change(layout: Layout) -> Change {
 fn shown(answer: Result<Version, StoreFault>) -> u32 {
     match answer {
         Ok(version) => version.0,
-        Err(fault) => number(fault),
+        Err(fault) => u32::from(fault),
     }
 }
 
@@ -40,7 +39,7 @@ fn shown(answer: Result<Version, StoreFault>) -> u32 {
 fn version_of<S: Store>(store: &S, ledger: u32) -> u32 {
     match store.get(LedgerId(ledger)) {
         Ok(metadata) => metadata.version.0,
-        Err(fault) => number(fault),
+        Err(fault) => u32::from(fault),
     }
 }
 
@@ -106,7 +105,7 @@ fn places_too_many(rt: HostRuntime) -> Result<(), Fail> {
     match Chronicle::new(&mut places[..]) {
         Ok(_) => Err(Fail::new("they are taken")),
         Err(fault) => {
-            assert_eq!(rt; fault.number(), 15);
+            assert_eq!(rt; u32::from(fault), 15);
             Ok(())
         },
     }

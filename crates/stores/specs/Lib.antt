@@ -1,3 +1,4 @@
 pub mod Meaning
 pub mod Versions
 pub mod Tables
+pub mod Questions

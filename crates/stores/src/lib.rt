@@ -8,6 +8,5 @@
 #![tactic(auto)]
 
 pub mod calls;
-pub mod faults;
 pub mod questions;
 pub mod table;

@@ -6,14 +6,14 @@ ghost use Rattle.protocol.specs.Stores.{kept, known, written, create_answer, cre
 ghost use Rattle.stores.specs.Meaning.{store};
 ghost use Rattle.chronicles.specs.Chronicles.{history, chronicle_ledgers, chronicle_changes, change_to, history_after, places_after};
 
-use super::{Chronicle, MAX_CHANGES};
+use super::Chronicle;
 use crate::changes::{Change, latest};
 use layout::fragments::Layout;
 use ledgers::ids::{Lac, LedgerId, Version};
 use messages::faults::StoreFault;
 use messages::metadata::{LedgerState, Metadata};
 use stores::calls::Store;
-use stores::questions::is_ledger;
+use stores::questions::{ask_create, ask_get, ask_put};
 
 impl Chronicle<'_> {
     // What is kept of a ledger; its version is not above the number of changes.
@@ -21,15 +21,14 @@ impl Chronicle<'_> {
         ensures value { result ≡ kept (store chronicle_ledgers chronicle_changes self.now) ledger.0 }
         ensures version { (known result).version.0 ≤ self.now.made }
     {
-        latest(self.noted(), ledger)
+        latest(self.changes(), ledger)
     }
 
     // Whether a change is left.
     fn has_room(&self) -> bool
         ensures { result ≡ nat_le 1 (chronicle_changes self.now) }
     {
-        let made = self.made as usize;
-        made < MAX_CHANGES && made < self.places.len()
+        (self.made as usize) < self.places.len()
     }
 
     // Notes a change, which makes this the metadata of its ledger.
@@ -57,13 +56,7 @@ impl Store for Chronicle<'_> {
     ghost changes = { chronicle_changes };
 
     fn get(&self, ledger: LedgerId) -> Result<Metadata, StoreFault> {
-        if !is_ledger(ledger) {
-            return Err(StoreFault::Range);
-        }
-        match self.kept(ledger) {
-            Some(metadata) => Ok(metadata),
-            None => Err(StoreFault::Existence),
-        }
+        ask_get(ledger, self.kept(ledger))
     }
 
     fn create(&mut self, ledger: LedgerId, layout: &Layout) -> Result<Version, StoreFault>
@@ -72,15 +65,7 @@ impl Store for Chronicle<'_> {
         ensures history { history self.new ≡ history_after result self.old (change_to ledger Open layout.now (lac_id 0)) }
         ensures places { self.new.places.now ≡ places_after result self.old (change_to ledger Open layout.now (lac_id 0)) }
     {
-        if !is_ledger(ledger) {
-            return Err(StoreFault::Range);
-        }
-        if self.kept(ledger).is_some() {
-            return Err(StoreFault::Existence);
-        }
-        if !self.has_room() {
-            return Err(StoreFault::Full);
-        }
+        ask_create(ledger, self.kept(ledger), self.has_room())?;
         let version = Version(1);
         let opened = Metadata {
             version,
@@ -105,18 +90,7 @@ impl Store for Chronicle<'_> {
         ensures history { history self.new ≡ history_after result self.old (change_to ledger state layout.now closing) }
         ensures places { self.new.places.now ≡ places_after result self.old (change_to ledger state layout.now closing) }
     {
-        if !is_ledger(ledger) {
-            return Err(StoreFault::Range);
-        }
-        let Some(present) = self.kept(ledger) else {
-            return Err(StoreFault::Existence);
-        };
-        if present.version.0 != expected.0 {
-            return Err(StoreFault::Version);
-        }
-        if !self.has_room() {
-            return Err(StoreFault::Full);
-        }
+        ask_put(ledger, self.kept(ledger), expected, self.has_room())?;
         let version = Version(expected.0 + 1);
         let next = Metadata {
             version,

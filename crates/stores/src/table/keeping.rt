@@ -8,7 +8,7 @@ ghost use Rattle.stores.specs.Tables.{table_ledgers, table_changes};
 
 use super::{TABLE_CHANGES, Table};
 use crate::calls::Store;
-use crate::questions::is_ledger;
+use crate::questions::{ask_create, ask_get, ask_put};
 use layout::fragments::Layout;
 use ledgers::ids::{Lac, LedgerId, Version};
 use messages::faults::StoreFault;
@@ -30,10 +30,9 @@ impl Table {
         ensures value { result ≡ kept (store table_ledgers table_changes self.now) ledger.0 }
         ensures version { (known result).version.0 ≤ self.now.made }
     {
-        if is_ledger(ledger) {
-            self.ledgers[ledger.0 as usize - 1]
-        } else {
-            None
+        match ledger.row() {
+            Some(row) => self.ledgers[row],
+            None => None,
         }
     }
 
@@ -46,7 +45,6 @@ impl Table {
 
     // Sets the metadata of a ledger, which takes a change.
     fn change(&mut self, ledger: LedgerId, metadata: Metadata)
-        requires there { is_ledger ledger.0 ≡ true }
         requires left { 1 ≤ table_changes self.old }
         requires version { metadata.version.0 ≤ self.old.made + 1 }
         ensures { store table_ledgers table_changes self.new ≡ written (store table_ledgers table_changes self.old) ledger.0 metadata }
@@ -66,12 +64,13 @@ impl Table {
 
     // A row is set.
     fn write(&mut self, ledger: LedgerId, metadata: Metadata)
-        requires there { is_ledger ledger.0 ≡ true }
         requires version { metadata.version.0 ≤ self.old.made }
         ensures ledgers { self.new.ledgers ≡ renumbered self.old.ledgers ledger.0 (Some metadata) }
         ensures made { self.new.made ≡ self.old.made }
     {
-        self.ledgers[ledger.0 as usize - 1] = Some(metadata);
+        if let Some(row) = ledger.row() {
+            self.ledgers[row] = Some(metadata);
+        }
     }
 }
 
@@ -81,25 +80,11 @@ impl Store for Table {
     ghost changes = { table_changes };
 
     fn get(&self, ledger: LedgerId) -> Result<Metadata, StoreFault> {
-        if !is_ledger(ledger) {
-            return Err(StoreFault::Range);
-        }
-        match self.kept(ledger) {
-            Some(metadata) => Ok(metadata),
-            None => Err(StoreFault::Existence),
-        }
+        ask_get(ledger, self.kept(ledger))
     }
 
     fn create(&mut self, ledger: LedgerId, layout: &Layout) -> Result<Version, StoreFault> {
-        if !is_ledger(ledger) {
-            return Err(StoreFault::Range);
-        }
-        if self.kept(ledger).is_some() {
-            return Err(StoreFault::Existence);
-        }
-        if !self.has_room() {
-            return Err(StoreFault::Full);
-        }
+        ask_create(ledger, self.kept(ledger), self.has_room())?;
         let version = Version(1);
         let opened = Metadata {
             version,
@@ -119,18 +104,7 @@ impl Store for Table {
         layout: &Layout,
         closing: Lac,
     ) -> Result<Version, StoreFault> {
-        if !is_ledger(ledger) {
-            return Err(StoreFault::Range);
-        }
-        let Some(present) = self.kept(ledger) else {
-            return Err(StoreFault::Existence);
-        };
-        if present.version.0 != expected.0 {
-            return Err(StoreFault::Version);
-        }
-        if !self.has_room() {
-            return Err(StoreFault::Full);
-        }
+        ask_put(ledger, self.kept(ledger), expected, self.has_room())?;
         let version = Version(expected.0 + 1);
         let next = Metadata {
             version,

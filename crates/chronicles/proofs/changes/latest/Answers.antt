@@ -4,13 +4,13 @@ use Rattle.std.proofs.lemmas.Bool.Decides.{nat_tests}
 use Rattle.ledgers.specs.Tables.{numbered}
 use Rattle.ledgers.specs.Limits.{is_ledger}
 use Rattle.protocol.specs.Stores.{known}
-use Rattle.stores.proofs.Rows.{none_numbered}
+use Rattle.ledgers.proofs.Rows.{none_numbered}
 use Rattle.chronicles.specs.Replays.{replayed}
 use Rattle.chronicles.proofs.Replay.{length_replayed, kept_within, found_none, found_more}
 use Rattle.chronicles.proofs.changes.latest.Goals as goal
 
-pub returns-then-not-is_ledger : goal.returns-then-not-is_ledger
-returns-then-not-is_ledger c =
+pub returns-then-not-is_in_range : goal.returns-then-not-is_in_range
+returns-then-not-is_in_range c =
     let cs = c.args.changes.now in sym (none_numbered (replayed cs) c.args.ledger.0 None (length_replayed cs) (cc))
 
 pub loop-change-init : goal.loop-change-init

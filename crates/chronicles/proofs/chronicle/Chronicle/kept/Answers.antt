@@ -10,7 +10,7 @@ use Rattle.chronicles.proofs.chronicle.Chronicle.kept.Goals as goal
 pub returns : goal.returns
 returns c =
     let s = c.args.self.now in
-    let is = c.latest.ensures ∙ ap (λ cs. numbered (replayed cs) c.args.ledger.0 None) c.noted.ensures.value in
+    let is = c.latest.ensures ∙ ap (λ cs. numbered (replayed cs) c.args.ledger.0 None) c.changes.ensures.value in
     let version = ap (λ m. (known m).version.0) is in
     record {
       value = is;

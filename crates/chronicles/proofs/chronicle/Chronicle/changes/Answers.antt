@@ -1,0 +1,6 @@
+use Rattle.chronicles.specs.Chronicles.{history}
+use Rattle.chronicles.proofs.Replay.{complete}
+use Rattle.chronicles.proofs.chronicle.Chronicle.changes.Goals as goal
+
+pub returns-clause-complete : goal.returns-clause-complete
+returns-clause-complete c = λ l there. complete (history c.args.self.now) l there

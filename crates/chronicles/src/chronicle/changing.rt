@@ -1,0 +1,29 @@
+// A chronicle is set up, and shows its changes.
+ghost use Rattle.std.specs.Prelude.{◌≡◌, length};
+ghost use Rattle.stores.specs.Meaning.{store};
+ghost use Rattle.chronicles.specs.Chronicles.{history, chronicle_ledgers, chronicle_changes, SetUp};
+ghost use Rattle.chronicles.specs.Replays.{Complete};
+
+use super::{Chronicle, MAX_CHANGES};
+use crate::changes::Change;
+use messages::faults::SetUpFault;
+
+impl<'a> Chronicle<'a> {
+    // A chronicle without a change. What the places hold means nothing.
+    pub fn new(places: &'a mut [Change]) -> Result<Chronicle<'a>, SetUpFault>
+        ensures { SetUp (length places.old) result }
+    {
+        if places.len() > MAX_CHANGES {
+            return Err(SetUpFault::ChroniclePlaces);
+        }
+        Ok(Chronicle { places, made: 0 })
+    }
+
+    // Every change that was ever accepted, in order. No version of a ledger is missing.
+    pub fn changes(&self) -> &[Change]
+        ensures value { result.now ≡ history self.now }
+        ensures complete { Complete (store chronicle_ledgers chronicle_changes self.now) result.now }
+    {
+        &self.places[..self.made as usize]
+    }
+}
