@@ -1,8 +1,8 @@
 -- What the functions do to the records of a list and to the places behind them: what users of lists rest on.
-use Rattle.std.proofs.Common.{◌≡◌, ℕ, ◌+◌, ◌-◌, ◌<◌, ◌≤◌, cond, ltb, List, ◌∷◌, ◌++◌, length, take, drop, set, replicate, sym, ap, ◌∙◌, ⊎_elim, add-one, arith, length-append}
+use Rattle.std.proofs.Common.{◌≡◌, ℕ, zero, suc, ◌+◌, ◌-◌, ◌<◌, ◌≤◌, cond, ltb, List, [], ◌∷◌, ◌++◌, length, take, drop, set, replicate, is_some, true, true≢false, Some, None, Option, sym, refl, ap, ◌∙◌, ⊎_elim, add-one, arith, length-append}
 use Rattle.std.proofs.lemmas.List.{append_assoc, take_more_set, take-take, take_at, drop_at, drop-take, drop-drop, drop-set-lt, drop-replicate, length-take, length-take-le, length-drop, set_past}
-use Rattle.std.proofs.lemmas.Bool.{lt-ltb, le-ltb, cond-true, cond-false, cases_lt}
-use Rattle.places.specs.Lists.{posted, taken_off, closed}
+use Rattle.std.proofs.lemmas.Bool.{and_parts, ltb-true, lt-ltb, le-ltb, cond-true, cond-false, cases_lt}
+use Rattle.places.specs.Lists.{Removed, posted, taken_off, closed}
 
 -- the count after an append
 abbrev pub grown : {A : Type 0} → List A → ℕ → ℕ
@@ -73,3 +73,20 @@ blank_past xs m n k b le h =
     let i : n + (k - n) ≡ k = omega arith in
     let j : (m - n) - (k - n) ≡ m - k = omega arith in
     ap (λ v. drop v xs) (sym i) ∙ sym (drop-drop (k - n) n xs) ∙ ap (drop (k - n)) h ∙ drop-replicate (k - n) (m - n) b ∙ ap (λ v. replicate v b) j
+
+-- a write to one of the first n places
+pub take_of_set : {A : Type 0} (n : ℕ) (xs : List A) (i : ℕ) (x : A) → take n (set xs i x) ≡ set (take n xs) i x
+take_of_set zero xs i x = refl
+take_of_set (suc n) [] i x = refl
+take_of_set (suc n) (y ∷ xs) zero x = refl
+take_of_set (suc n) (y ∷ xs) (suc i) x = ap (λ ys. y ∷ ys) (take_of_set n xs i x)
+
+-- where a record was taken off, the list had it
+pub taken_there : {A : Type 0} (blank : A) (xs ys : List A) (n at : ℕ) (r : Option A) → is_some r ≡ true → Removed blank xs n at r ys
+    → (at < n) × (ys ≡ closed blank xs n at)
+taken_there blank xs ys n at None is h = absurd (true≢false (sym is))
+taken_there blank xs ys n at (Some x) is (there, value, after) = let parts = and_parts (ltb at n) _ there in (ltb-true at n parts.0, after)
+
+-- one blank more in front
+pub blank_before : {A : Type 0} (m n : ℕ) (b : A) → 1 ≤ n → n ≤ m → b ∷ replicate (m - n) b ≡ replicate (m - (n - 1)) b
+blank_before m n b some le = let i : suc (m - n) ≡ m - (n - 1) = omega arith in ap (λ k. replicate k b) i

@@ -1,3 +1,4 @@
 pub mod Lists
 pub mod Padding
 pub mod ShortLists
+pub mod LentLists

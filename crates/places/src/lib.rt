@@ -8,6 +8,7 @@
 ghost use Rattle.std.specs.Prelude.{◌≡◌, ◌+◌, ◌<◌, ◌≤◌, length, replicate, if◌then◌else◌, nat_lt, slice_index_or, slice_set};
 ghost use Rattle.places.specs.Lists.{closed, Removed};
 
+pub mod lent_lists;
 pub mod short_lists;
 
 // A kind of record that has a blank one.

@@ -1,5 +1,6 @@
 -- What a waiting list means: the protocol's queue.
-use Rattle.std.specs.Prelude.{ℕ, cond, [], length, take, Some, None, vec_items, vec_len, Option, nat_lt, slice_index_or}
+use Rattle.std.specs.Prelude.{ℕ, cond, [], length, Some, None, Option, nat_lt, slice_index_or}
+use Rattle.places.specs.LentLists.{records, room}
 use Rattle.messages.specs.Blanks.{no_message}
 use Rattle.messages.specs.Waiting.{Queue, without}
 use Rattle.messages.specs.declared.messages.Message.{Message}
@@ -7,11 +8,11 @@ use Rattle.waiting.specs.declared.waiting_list.WaitingList.{WaitingList}
 
 -- its memory's places, and the messages in the first of them
 abbrev pub queue : WaitingList → Queue
-queue w = record { room = vec_len w.places; waiting = take w.count (vec_items w.places) }
+queue w = record { room = room w.0; waiting = records w.0 }
 
 -- so many places, and no message
 abbrev pub no_messages : ℕ → Queue
-no_messages room = record { room = room; waiting = [] }
+no_messages n = record { room = n; waiting = [] }
 
 -- the message at a place, if one waits there
 abbrev pub waiting_at : Queue → ℕ → Option Message
