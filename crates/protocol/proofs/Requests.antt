@@ -311,7 +311,7 @@ add_keeps {x₀} ns c l b e n body i s = by (add_answer B l e n body false) refl
         has l' e' k (inr a) = (grown k).held l' e' (i.acked l' e' k a)
 
     by : (a : Result (Unit {0}) BookieFault) → add_answer B l e n body false ≡ a
-        → InvAt x₀ (delivery_note (Add l b e n body) (served a) ∷ ns) (send c' (add_reply l b e a))
+        → InvAt x₀ (delivery_note (Add l b e n body) (Ok (served a)) ∷ ns) (send c' (add_reply l b e a))
     by (Ok u) z = acknowledging u z
     by (Err f) z =
         sent_inv ns c' (add_reply l b e (Err f)) (bookie_inv ns c b.0 C i (add_grows B l e n body false) copies)

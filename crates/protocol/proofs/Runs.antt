@@ -16,7 +16,6 @@ use Rattle.protocol.specs.Recoverers.{no_recoverer}
 use Rattle.protocol.specs.Clusters.{Cluster, empty, ledger_of, with_queue}
 use Rattle.protocol.specs.Steps.{act, waits, message_at, deliver, step}
 use Rattle.protocol.specs.Histories.{History, Runs, stay, more, Reached}
-use Rattle.protocol.specs.declared.answers.Answer.TheVariants as answer
 use Rattle.protocol.specs.declared.faults.StepFault.{StepFault}
 use Rattle.protocol.specs.declared.faults.StepFault.TheVariants as fault
 use Rattle.protocol.specs.declared.recoverers.Recoverer.{Recoverer}
@@ -48,7 +47,7 @@ act_keeps ns c (RecoveryAdded r l b e) i g = to_recoverer_keeps ns c r (Recovery
 act_keeps ns c (Refused r l b f) i g = to_recoverer_keeps ns c r (Refused r l b f) i g
 
 -- a refused delivery leaves no note
-refused_note : {x₀ : World} (ns : List Note) (c : Cluster) (m : Message) (f : StepFault) → InvAt x₀ ns c → InvAt x₀ (delivery_note m (answer.Refused f) ∷ ns) c
+refused_note : {x₀ : World} (ns : List Note) (c : Cluster) (m : Message) (f : StepFault) → InvAt x₀ ns c → InvAt x₀ (delivery_note m (Err f) ∷ ns) c
 refused_note ns c (Fence r l b) f i = i
 refused_note ns c (RecoveryRead r l b e) f i = i
 refused_note ns c (Add l b e n body) f i = i
