@@ -366,7 +366,7 @@ past_covered h r l y Ended q k = (refl, k)
 -- the race -----------------------------------------------------------------------------------------------------------
 -- a closed ledger is there
 closed_there : (o : Option Metadata) → (known o).state ≡ Closed → is_there o ≡ true
-closed_there None h = let z : ◌≡◌ {A = ℕ} 0 1 = cc in let v : ⊥ = omega arith in absurd v
+closed_there None h = absurd (cc)
 closed_there (Some m) h = refl
 
 -- and what is there is in range

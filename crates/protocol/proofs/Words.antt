@@ -122,7 +122,7 @@ confirm_deliver : (c : Cluster) (p : MessagePlace) (l : LedgerId) (n : Lac) (k :
     → k < (writer_of (deliver c p).next l.0).lac
 confirm_deliver c p l n k t =
     ask_cases c (λ o. o.answer ≡ Ok (answer.Confirmed n) → k < n.0 → k < (writer_of o.next l.0).lac) (waits c p) (fault.Missing 1) _
-    (λ q. let z : ◌≡◌ {A = ℕ} 0 1 = cc in let v : ⊥ = omega arith in absurd v)
+    (λ q. absurd (cc))
     (λ _. confirm_act (with_queue c (without c.queue p.0)) (message_at c p) l n k t)
 
 module _ (c₀ : Cluster) (i₀ : InvAt (world [] c₀) [] c₀) where
@@ -298,7 +298,7 @@ new_content ns c s l e body i (did, said) =
     subst (λ (v : Step). (step c v).answer ≡ Ok (answer.Entry (entry_id e)) → ContentAt (contents_of (note_of v c (step c v).answer ∷ ns) l) e body) (sym did)
     (append_cases ns c (ledger_id l) body
     (λ a. a ≡ Ok (answer.Entry (entry_id e)) → ContentAt (contents_of (note_of (Append (ledger_id l) body) c a ∷ ns) l) e body) i
-    (λ f q. let z : ◌≡◌ {A = ℕ} 0 1 = cc in let v : ⊥ = omega arith in absurd v)
+    (λ f q. absurd (cc))
     (λ n len q. let same : entry_id n ≡ entry_id e = cc in
     rw (eq-eqb l l refl) (content_last (contents_of ns l) body e (len ∙ ap (λ (v : EntryId). v.0) same)))) said
 
@@ -325,8 +325,7 @@ fence_answered : {x₀ : World} (ns : List Note) (c : Cluster) (p : MessagePlace
 fence_answered ns c p r l b n i q =
     elim (cases_Bool (waits c p)) [
       | inl z ↦ (subst (MessageOk (world ns c)) q (waiting_ok ns c p i z)).0
-      | inr z ↦ (let blank : message_at c p ≡ no_message = get_or_past c.queue.waiting p.0 no_message (ltb-false p.0 (length c.queue.waiting) z) in
-          let bad : ◌≡◌ {A = ℕ} 0 1 = cc in let v : ⊥ = omega arith in absurd v)
+      | inr z ↦ (let blank : message_at c p ≡ no_message = get_or_past c.queue.waiting p.0 no_message (ltb-false p.0 (length c.queue.waiting) z) in absurd (cc))
     ]
 
 module _ (c₀ : Cluster) (i₀ : InvAt (world [] c₀) [] c₀) where
