@@ -1,9 +1,11 @@
 // From one phase to the next.
-ghost use Rattle.std.specs.Prelude.{◌≡◌, ◌&&◌, ◌==◌};
+ghost use Rattle.std.specs.Prelude.{◌≡◌};
 ghost use Rattle.protocol.specs.Recoverers.{read_on, higher, next};
+ghost use Rattle.recoverers.specs.Replies.{is_awaited};
 
-use ledgers::ids::{EntryId, Lac, LedgerId, MAX_ENTRIES};
-use protocol::recoverers::Phase;
+use ledgers::ids::{Lac, MAX_ENTRIES};
+use messages::messages::Message;
+use protocol::recoverers::{Phase, Recoverer};
 
 // With so many entries settled the next is read, if there can be one.
 pub(crate) fn read_on(settled: Lac) -> Phase
@@ -34,9 +36,17 @@ pub(crate) fn one_more(settled: Lac) -> Lac
     }
 }
 
-// Whether a reply is of the ledger that is recovered, and of the entry after the settled ones.
-pub(crate) fn at_hand(own: LedgerId, settled: Lac, ledger: &LedgerId, e: &EntryId) -> bool
-    ensures { result ≡ (ledger.now.0 == own.0 && e.now.0 == settled.0) }
+// Whether a reply is a fence answer of the ledger that is recovered, or any other for the entry after the settled ones.
+pub(crate) fn is_awaited(recoverer: &Recoverer, reply: &Message) -> bool
+    ensures { result ≡ is_awaited recoverer.now reply.now }
 {
-    ledger.0 == own.0 && e.0 == settled.0
+    match reply {
+        Message::Fenced { ledger, .. } => ledger.0 == recoverer.ledger.0,
+        Message::Absent { ledger, entry, .. }
+        | Message::Found { ledger, entry, .. }
+        | Message::RecoveryAdded { ledger, entry, .. } => {
+            ledger.0 == recoverer.ledger.0 && entry.0 == recoverer.settled.0
+        }
+        _ => false,
+    }
 }
