@@ -2,7 +2,7 @@
 use ledgers::ids::{EntryId, Lac, Version};
 use messages::faults::BookieFault;
 
-#[derive(Clone, Copy)]
+#[derive(Clone, Copy, PartialEq, Eq)]
 pub enum Answer {
     // The version of the metadata that was put or read.
     Version(Version),
