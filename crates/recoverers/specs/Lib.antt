@@ -1,3 +1,3 @@
 pub mod Replies
-pub mod Requests
+pub mod Rounds
 pub mod Beginnings

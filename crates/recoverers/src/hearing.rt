@@ -6,7 +6,7 @@ ghost use Rattle.protocol.specs.Recoverers.{heard, heard_sends, asks, phase_numb
 ghost use Rattle.protocol.specs.declared.recoverers.Recoverer.{Recoverer};
 
 use crate::asking::ask;
-use crate::phases::{is_awaited, later, one_more, read_on};
+use crate::phases::{is_awaited, one_more, read_on};
 use ledgers::ids::{EntryId, RecovererId};
 use messages::messages::Message;
 use protocol::recoverers::{Phase, Recoverer};
@@ -48,7 +48,7 @@ impl Recovery for Recoverer {
         self.phase = match (&mut self.phase, reply) {
             (Phase::Fencing { marks }, Message::Fenced { bookie, lac, .. }) => {
                 self.layout.mark_ensemble(*bookie, marks);
-                self.settled = later(self.settled, *lac);
+                self.settled = self.settled.max(*lac);
                 if !sizes.covers(marks) {
                     return false;
                 }

@@ -1,6 +1,6 @@
 // From one phase to the next.
 ghost use Rattle.std.specs.Prelude.{◌≡◌};
-ghost use Rattle.protocol.specs.Recoverers.{read_on, higher, next};
+ghost use Rattle.protocol.specs.Recoverers.{read_on, next};
 ghost use Rattle.recoverers.specs.Replies.{is_awaited};
 
 use ledgers::ids::{Lac, MAX_ENTRIES};
@@ -16,13 +16,6 @@ pub(crate) fn read_on(settled: Lac) -> Phase
     } else {
         Phase::Reading { absent: [false; 5] }
     }
-}
-
-// The later of two.
-pub(crate) fn later(a: Lac, b: Lac) -> Lac
-    ensures { result.0 ≡ higher a.0 b.0 }
-{
-    if a.0 < b.0 { b } else { a }
 }
 
 // One entry more, as long as there can be one.
@@ -41,11 +34,11 @@ pub(crate) fn is_awaited(recoverer: &Recoverer, reply: &Message) -> bool
     ensures { result ≡ is_awaited recoverer.now reply.now }
 {
     match reply {
-        Message::Fenced { ledger, .. } => ledger.0 == recoverer.ledger.0,
+        Message::Fenced { ledger, .. } => *ledger == recoverer.ledger,
         Message::Absent { ledger, entry, .. }
         | Message::Found { ledger, entry, .. }
         | Message::RecoveryAdded { ledger, entry, .. } => {
-            ledger.0 == recoverer.ledger.0 && entry.0 == recoverer.settled.0
+            *ledger == recoverer.ledger && entry.0 == recoverer.settled.0
         }
         _ => false,
     }
