@@ -181,8 +181,8 @@ succeeds_same m = record { stays = λ h. h; under = λ v h. h; closed = λ h. (h
 
 -- open is neither in recovery nor closed
 pub open_shut : (m : Metadata) → m.state ≡ Open → Shut m → ⊥
-open_shut m o (inl k) = let z : ◌≡◌ {A = ℕ} 0 1 = cc in let v : ⊥ = omega arith in absurd v
-open_shut m o (inr k) = let z : ◌≡◌ {A = ℕ} 0 1 = cc in let v : ⊥ = omega arith in absurd v
+open_shut m o (inl k) = cc
+open_shut m o (inr k) = cc
 
 -- anything may follow an open ledger's metadata
 pub open_succeeds : (m m' : Metadata) → m.state ≡ Open → Succeeds m m'

@@ -1,5 +1,5 @@
 -- What is to be shown of a chain of questions: once for each refusal, and once for what follows a yes.
-use Rattle.std.proofs.Common.{◌≡◌, ℕ, suc, Bool, true, false, not, eqb, leb, Ok, Err, Result, refl, arith}
+use Rattle.std.proofs.Common.{◌≡◌, suc, Bool, true, false, not, eqb, leb, Ok, Err, Result, refl}
 use Rattle.std.proofs.lemmas.Bool.{not-true, eqb-true, eqb-false}
 use Rattle.ledgers.specs.Limits.{is_ledger}
 use Rattle.ledgers.specs.Ids.{lac_id, version_id}
@@ -21,10 +21,6 @@ use Rattle.protocol.specs.declared.faults.ClientFault.TheVariants as client
 use Rattle.protocol.specs.declared.faults.StepFault.{StepFault}
 use Rattle.protocol.specs.declared.faults.StepFault.TheVariants as fault
 
--- a good answer and a refusal are never equal
-pub ok_not_err : {A F P : Type 0} (f : F) (a : A) → Err f ≡ Ok a → P
-ok_not_err f a h = let z : ◌≡◌ {A = ℕ} 0 1 = cc in let v : ⊥ = omega arith in absurd v
-
 -- of bookies, stores and clients -------------------------------------------------------------------------------------
 -- one question
 pub asked : {A F : Type 0} (q : Bool) (f : F) (r : Result A F) (P : Result A F → Type 0) → P (Err f) → (q ≡ true → P r) → P (question q f r)
@@ -34,7 +30,7 @@ asked false f r P bad good = bad
 -- an accepted call passed the question
 pub passed : {A F : Type 0} (q : Bool) (f : F) (r : Result A F) (a : A) → question q f r ≡ Ok a → (q ≡ true) × (r ≡ Ok a)
 passed true f r a h = (refl, h)
-passed false f r a h = ok_not_err f a h
+passed false f r a h = absurd (cc)
 
 -- what follows an answer
 pub by_answer : {A F X : Type 0} (r : Result A F) (x y : X) (P : X → Type 0) → ((a : A) → r ≡ Ok a → P x) → ((f : F) → r ≡ Err f → P y)
@@ -45,7 +41,7 @@ by_answer (Err e) x y P f g = g e refl
 -- an accepted pair of calls
 pub both_passed : {A B F : Type 0} (r : Result A F) (s : Result B F) (b : B) → and_then r s ≡ Ok b → ((a : A) × (r ≡ Ok a)) × (s ≡ Ok b)
 both_passed (Ok a) s b h = ((a, refl), h)
-both_passed (Err f) s b h = ok_not_err f b h
+both_passed (Err f) s b h = absurd (cc)
 
 -- of the store, answer and store after together
 module _ (s : Store) (l : LedgerId) (P : Result Version StoreFault → Store → Type 0) where

@@ -160,7 +160,7 @@ finish_keeps {x₀} ns c r i =
         }) i
       where
         not_closed : Under m R.version.0 → m.state ≡ Closed → ⊥
-        not_closed (inl z) y = let n = z.0 in let b : ◌≡◌ {A = ℕ} 0 1 = cc in let v : ⊥ = omega arith in absurd v
+        not_closed (inl z) y = let n = z.0 in cc
         not_closed (inr z) y = let u = z.1 in omega arith
 
         lower : Under m R.version.0 → (writer_of c R.ledger.0).version < suc R.version.0

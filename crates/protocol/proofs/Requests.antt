@@ -22,7 +22,7 @@ use Rattle.protocol.specs.Bookies.{Bookie, no_bookie, is_copy, find, is_there, h
 use Rattle.protocol.specs.Clusters.{Cluster, bookie_of, writer_of, with_bookie, send}
 use Rattle.protocol.specs.Steps.{unless_stopped, add_reply, recovery_add_reply, fence_reply, read_reply, served, act}
 use Rattle.protocol.proofs.Lists.{at_set, in_range, set_rel, number_rel, number_same, ledger_row}
-use Rattle.protocol.proofs.Questions.{ok_not_err, passed, by_answer, both_passed}
+use Rattle.protocol.proofs.Questions.{passed, by_answer, both_passed}
 use Rattle.protocol.proofs.World.{Note, ack_note, delivery_note, is_ack, acked_by, World, world, Sent, CopyOk, MessageOk, Later, InvAt}
 use Rattle.protocol.proofs.Changes.{sent_inv, Grows, grows_same, bookies_later, bookies_inv, bookie_inv}
 
@@ -103,7 +103,7 @@ module _ (B : Bookie) (l : LedgerId) (e : EntryId) (n : Lac) (body : Body) (reco
   add_holds u z =
       by_answer (add_answer B l e n body recovery) _ B (λ C. holds C l.0 e.0 ≡ true)
       (λ _ _. cond_both (holds B l.0 e.0) B (holding B copy) (λ C. holds C l.0 e.0 ≡ true) (λ h. h) (λ _. find_new B.entries copy))
-      (λ f k. ok_not_err f u (sym k ∙ z))
+      (λ f k. absurd (cc))
 
   -- a bookie that acknowledges is up, and not fenced for a writer
   add_passed : (u : Unit {0}) → add_answer B l e n body recovery ≡ Ok u → (B.up ≡ true) × ((not (is_fenced B l.0) || recovery) ≡ true)
@@ -139,7 +139,7 @@ module _ (B : Bookie) (l : LedgerId) where
   fence_fences flags n z =
       by_answer (fence_answer B l) (fencing B l) B (λ C. is_fenced C l.0 ≡ true)
       (λ _ _. number_same B.fences l.0 true false (ledger_row B.fences l.0 flags (fence_passed n z).0))
-      (λ f k. ok_not_err f n (sym k ∙ z))
+      (λ f k. absurd (cc))
 
 -- deliveries ---------------------------------------------------------------------------------------------------------
 -- a refusal says nothing
@@ -311,7 +311,7 @@ add_keeps {x₀} ns c l b e n body i s = by (add_answer B l e n body false) refl
         has l' e' k (inr a) = (grown k).held l' e' (i.acked l' e' k a)
 
     by : (a : Result (Unit {0}) BookieFault) → add_answer B l e n body false ≡ a
-        → InvAt x₀ (delivery_note (Add l b e n body) (served a) ∷ ns) (send c' (add_reply l b e a))
+        → InvAt x₀ (delivery_note (Add l b e n body) (Ok (served a)) ∷ ns) (send c' (add_reply l b e a))
     by (Ok u) z = acknowledging u z
     by (Err f) z =
         sent_inv ns c' (add_reply l b e (Err f)) (bookie_inv ns c b.0 C i (add_grows B l e n body false) copies)

@@ -1,5 +1,6 @@
 -- Recoveries go by their rounds.
-use Rattle.std.proofs.Common.{◌≡◌, ℕ, ◌+◌, Bool, true, false, not, ◌&&◌, eqb, ltb, leb, ◌⊎◌, List, [], ◌∷◌, length, get_or, Some, None, Option, sym, refl, ap, ◌∙◌, subst, inl, inr, arith}
+use Rattle.std.proofs.Common.{◌≡◌, ℕ, ◌+◌, Bool, true, false, not, ◌&&◌, eqb, ltb, leb, ◌⊎◌, List, [], ◌∷◌, length, get_or, Some, None, Ok, Err, Option, sym, refl, ap, ◌∙◌, subst, inl, inr, arith}
+use Rattle.std.specs.Result.{is_ok}
 use Rattle.std.proofs.lemmas.Bool.{and_from, true≢false, false≢true, cond_both, eqb-true, ne_eqb, le-leb}
 use Rattle.ledgers.specs.Limits.{max_ledgers, max_entries, max_recoverers, is_ledger, is_recoverer}
 use Rattle.ledgers.specs.Ids.{ledger_id, bookie_id, recoverer_id}
@@ -31,7 +32,6 @@ use Rattle.protocol.specs.Stores.{Store, kept, known, exists, create_answer}
 use Rattle.protocol.specs.Writers.{is_made, append_answer, resend_answer, change_answer, change_store, close_answer, close_store}
 use Rattle.protocol.specs.Recoverers.{at_work, is_ended, no_recoverer, by_store, recover_answer, recover_store, new_recoverer, in_phase, read_on, write_back, higher, next, fence_marks, entry_marks, hits, heard_fenced, heard_absent, heard_written, at_hand, while_fencing, while_reading, while_writing, heard_in, heard, finish_answer}
 use Rattle.protocol.specs.Clusters.{Cluster, empty, writer_of, recoverer_of, ledger_of, with_store, with_queue}
-use Rattle.protocol.specs.Answers.{is_accepted}
 use Rattle.protocol.specs.Steps.{Outcome, refuse, create_sized, existing, create, append, resend, changed, change_ensemble, closed, close, begun, recover, ask_again, finish, to_recoverer, act, waits, message_at, deliver, duplicate, discard, turn, step}
 use Rattle.protocol.specs.Histories.{Event, History, event, Runs, stay, more, Started, Answered}
 use Rattle.protocol.specs.Law.{IsClosed, past_fences, RoundsLaw}
@@ -258,8 +258,8 @@ module _ (h : History) (c : Cluster) (r : RecovererId) (k : RoundOk h r (recover
   quiet_round s o q same = subst (λ (xs : List Recoverer). RoundOk (event c s ∷ h) r (numbered xs r.0 no_recoverer)) (sym same) (kept_round s (not_started s q))
 
   -- a refused start is none
-  refused_round : (q : RecovererId) (l : LedgerId) (f : StepFault) → (recover c q l).answer ≡ answer.Refused f → RoundOk (event c (Recover q l) ∷ h) r (recoverer_of c r.0)
-  refused_round q l f said = kept_round (Recover q l) (λ (l', did, accepted). false≢true (sym (ap is_accepted said) ∙ accepted))
+  refused_round : (q : RecovererId) (l : LedgerId) (f : StepFault) → (recover c q l).answer ≡ Err f → RoundOk (event c (Recover q l) ∷ h) r (recoverer_of c r.0)
+  refused_round q l f said = kept_round (Recover q l) (λ (l', did, accepted). false≢true (sym (ap is_ok said) ∙ accepted))
 
   -- a recoverer that is started has no marks yet
   recover_round : (q : RecovererId) (l : LedgerId) → RoundOk (event c (Recover q l) ∷ h) r (recoverer_of (recover c q l).next r.0)
@@ -366,7 +366,7 @@ past_covered h r l y Ended q k = (refl, k)
 -- the race -----------------------------------------------------------------------------------------------------------
 -- a closed ledger is there
 closed_there : (o : Option Metadata) → (known o).state ≡ Closed → is_there o ≡ true
-closed_there None h = let z : ◌≡◌ {A = ℕ} 0 1 = cc in let v : ⊥ = omega arith in absurd v
+closed_there None h = absurd (cc)
 closed_there (Some m) h = refl
 
 -- and what is there is in range
@@ -376,7 +376,7 @@ row_ledger xs l n h = and_from (leb 1 l) (leb l max_ledgers) (le-leb 1 l h.0) (l
 -- so a finish that comes late answers the closing entry
 late_finish : {x₀ : World} (ns : List Note) (c : Cluster) (r : RecovererId) → InvAt x₀ ns c → is_ended (recoverer_of c r.0).phase ≡ true
     → ((ledger_of c (recoverer_of c r.0).ledger.0).version.0 ≡ (recoverer_of c r.0).version.0 → ⊥)
-    → IsClosed c (recoverer_of c r.0).ledger × ((finish c r).answer ≡ answer.ClosingEntry (ledger_of c (recoverer_of c r.0).ledger.0).closing)
+    → IsClosed c (recoverer_of c r.0).ledger × ((finish c r).answer ≡ Ok (answer.ClosingEntry (ledger_of c (recoverer_of c r.0).ledger.0).closing))
 late_finish ns c r i ended ne = (closed_now, rw (work, ended, in_range_now, there, other))
   where
     R : Recoverer

@@ -16,12 +16,11 @@ use Rattle.protocol.specs.Recoverers.{no_recoverer}
 use Rattle.protocol.specs.Clusters.{Cluster, empty, ledger_of, with_queue}
 use Rattle.protocol.specs.Steps.{act, waits, message_at, deliver, step}
 use Rattle.protocol.specs.Histories.{History, Runs, stay, more, Reached}
-use Rattle.protocol.specs.declared.answers.Answer.TheVariants as answer
 use Rattle.protocol.specs.declared.faults.StepFault.{StepFault}
 use Rattle.protocol.specs.declared.faults.StepFault.TheVariants as fault
 use Rattle.protocol.specs.declared.recoverers.Recoverer.{Recoverer}
 use Rattle.protocol.proofs.Lists.{all_blank, all_taken_off}
-use Rattle.protocol.proofs.Questions.{ok_not_err, ask_cases}
+use Rattle.protocol.proofs.Questions.{ask_cases}
 use Rattle.protocol.proofs.World.{Note, delivery_note, note_of, notes, acked_by, World, world, CopyOk, MessageOk, WriterOk, LedgerOk, RecovererOk, Later, Inv, InvAt, Keeps}
 use Rattle.protocol.proofs.Lasting.{later_refl}
 use Rattle.protocol.proofs.Apart.{no_layout_ok}
@@ -40,7 +39,7 @@ act_keeps ns c (RecoveryRead r l b e) i g = read_keeps ns c r l b e i
 act_keeps ns c (Add l b e n body) i g = add_keeps ns c l b e n body i g
 act_keeps ns c (RecoveryAdd r l b e n body) i g = recovery_add_keeps ns c r l b e n body i g
 act_keeps ns c (Added l b e) i g = to_writer_keeps ns c l b e (Ok tt) i (λ _ _. g)
-act_keeps ns c (AddRefused l b e f) i g = to_writer_keeps ns c l b e (Err f) i (λ u z. ok_not_err f u z)
+act_keeps ns c (AddRefused l b e f) i g = to_writer_keeps ns c l b e (Err f) i (λ u z. absurd (cc))
 act_keeps ns c (Fenced r l b n) i g = to_recoverer_keeps ns c r (Fenced r l b n) i g
 act_keeps ns c (Absent r l b e) i g = to_recoverer_keeps ns c r (Absent r l b e) i g
 act_keeps ns c (Found r l b e n body) i g = to_recoverer_keeps ns c r (Found r l b e n body) i g
@@ -48,7 +47,7 @@ act_keeps ns c (RecoveryAdded r l b e) i g = to_recoverer_keeps ns c r (Recovery
 act_keeps ns c (Refused r l b f) i g = to_recoverer_keeps ns c r (Refused r l b f) i g
 
 -- a refused delivery leaves no note
-refused_note : {x₀ : World} (ns : List Note) (c : Cluster) (m : Message) (f : StepFault) → InvAt x₀ ns c → InvAt x₀ (delivery_note m (answer.Refused f) ∷ ns) c
+refused_note : {x₀ : World} (ns : List Note) (c : Cluster) (m : Message) (f : StepFault) → InvAt x₀ ns c → InvAt x₀ (delivery_note m (Err f) ∷ ns) c
 refused_note ns c (Fence r l b) f i = i
 refused_note ns c (RecoveryRead r l b e) f i = i
 refused_note ns c (Add l b e n body) f i = i

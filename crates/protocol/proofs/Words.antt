@@ -1,7 +1,8 @@
 -- What the invariant says of a run, in the law's words.
-use Rattle.std.proofs.Common.{◌≡◌, ℕ, zero, suc, ◌%◌, ◌<◌, ◌≤◌, Bool, true, false, not, eqb, leb, ◌⊎◌, List, [], ◌∷◌, ◌++◌, length, get_or, Some, None, Ok, Err, Option, Result, sym, refl, ap, ◌∙◌, subst, inl, inr, mod-lt, arith, length-append}
+use Rattle.std.proofs.Common.{◌≡◌, ℕ, zero, suc, ◌%◌, ◌<◌, ◌≤◌, Bool, true, false, not, eqb, leb, ◌⊎◌, List, [], ◌∷◌, ◌++◌, length, get_or, Some, None, Ok, Err, Option, Result, ◌≢◌, sym, refl, ap, ◌∙◌, subst, inl, inr, mod-lt, arith, length-append}
 use native.Mathlib.Nat.{suc-mod, mod-mod}
 use lib.ListN.{length-map}
+use Rattle.std.specs.Result.{IfOk}
 use Rattle.std.proofs.ByRecursion.{All-weaker}
 use Rattle.std.proofs.lemmas.List.{get_or_append_left, get_or_at, get_or_past}
 use Rattle.std.proofs.lemmas.Bool.{and_parts, and_from, cases_Bool, both_ways, not-true, false≢true, cond_both, eqb-true, eq-eqb, ltb-false, leb-true, cases_eq, cases_lt}
@@ -35,8 +36,7 @@ use Rattle.protocol.specs.Stores.{Store, known, metadata_of, written}
 use Rattle.protocol.specs.Writers.{Writer, no_writer, is_made, is_closed, next_entry, has_room, appended, append_sends, reply_after, by_put, close_store}
 use Rattle.protocol.specs.Recoverers.{at_work, is_ended, no_recoverer, finished, finish_store}
 use Rattle.protocol.specs.Clusters.{Cluster, empty, bookie_of, writer_of, recoverer_of, ledger_of, with_store, with_writer, with_recoverer, with_queue, send}
-use Rattle.protocol.specs.Answers.{is_accepted}
-use Rattle.protocol.specs.Steps.{Outcome, done, refuse, by_client, append, closed, close, finish, to_writer, act, waits, message_at, deliver, step}
+use Rattle.protocol.specs.Steps.{Outcome, done, by_client, append, closed, close, finish, to_writer, act, waits, message_at, deliver, step}
 use Rattle.protocol.specs.Histories.{History, event, Runs, stay, more, Once, Appended, ToWriter, Confirmed, Closes, ClosedWith, Answered, Covered}
 use Rattle.protocol.specs.Law.{IsClosed, TrueCopy, Law}
 use Rattle.protocol.specs.declared.answers.Answer.{Answer}
@@ -96,7 +96,7 @@ closed_lac {x₀} {x} i l z = by (subst (StateOk x l (x.writer l) (x.ledger l)) 
 -- confirmed ----------------------------------------------------------------------------------------------------------
 -- the LAC that is answered is the writer's from then on
 reply_lac : (c : Cluster) (l : LedgerId) (b : BookieId) (e : EntryId) (a : Result (Unit {0}) BookieFault) (n : Lac) (k : ℕ)
-    → (to_writer c l b e a).answer ≡ answer.Confirmed n → k < n.0 → k < (writer_of (to_writer c l b e a).next l.0).lac
+    → (to_writer c l b e a).answer ≡ Ok (answer.Confirmed n) → k < n.0 → k < (writer_of (to_writer c l b e a).next l.0).lac
 reply_lac c l b e a n k said lt =
     elim (row_or_blank c.writers l.0 no_writer) [
       | inl z ↦ rw (number_same c.writers l.0 w' no_writer z) below
@@ -110,19 +110,19 @@ reply_lac c l b e a n k said lt =
     below = let same : lac_id w'.lac ≡ n = cc in let s : w'.lac ≡ n.0 = ap (λ (v : Lac). v.0) same in omega arith
 
 -- whichever reply it was
-confirm_act : (c : Cluster) (m : Message) (l : LedgerId) (n : Lac) (k : ℕ) → ToWriter l m → (act c m).answer ≡ answer.Confirmed n → k < n.0
+confirm_act : (c : Cluster) (m : Message) (l : LedgerId) (n : Lac) (k : ℕ) → ToWriter l m → (act c m).answer ≡ Ok (answer.Confirmed n) → k < n.0
     → k < (writer_of (act c m).next l.0).lac
 confirm_act c m l n k (inl (b, e, is)) =
-    subst (λ (v : Message). (act c v).answer ≡ answer.Confirmed n → k < n.0 → k < (writer_of (act c v).next l.0).lac) (sym is) (reply_lac c l b e (Ok tt) n k)
+    subst (λ (v : Message). (act c v).answer ≡ Ok (answer.Confirmed n) → k < n.0 → k < (writer_of (act c v).next l.0).lac) (sym is) (reply_lac c l b e (Ok tt) n k)
 confirm_act c m l n k (inr (b, e, f, is)) =
-    subst (λ (v : Message). (act c v).answer ≡ answer.Confirmed n → k < n.0 → k < (writer_of (act c v).next l.0).lac) (sym is) (reply_lac c l b e (Err f) n k)
+    subst (λ (v : Message). (act c v).answer ≡ Ok (answer.Confirmed n) → k < n.0 → k < (writer_of (act c v).next l.0).lac) (sym is) (reply_lac c l b e (Err f) n k)
 
 -- at the delivery itself
-confirm_deliver : (c : Cluster) (p : MessagePlace) (l : LedgerId) (n : Lac) (k : ℕ) → ToWriter l (message_at c p) → (deliver c p).answer ≡ answer.Confirmed n → k < n.0
+confirm_deliver : (c : Cluster) (p : MessagePlace) (l : LedgerId) (n : Lac) (k : ℕ) → ToWriter l (message_at c p) → (deliver c p).answer ≡ Ok (answer.Confirmed n) → k < n.0
     → k < (writer_of (deliver c p).next l.0).lac
 confirm_deliver c p l n k t =
-    ask_cases c (λ o. o.answer ≡ answer.Confirmed n → k < n.0 → k < (writer_of o.next l.0).lac) (waits c p) (fault.Missing 1) _
-    (λ q. let z : ◌≡◌ {A = ℕ} 0 1 = cc in let v : ⊥ = omega arith in absurd v)
+    ask_cases c (λ o. o.answer ≡ Ok (answer.Confirmed n) → k < n.0 → k < (writer_of o.next l.0).lac) (waits c p) (fault.Missing 1) _
+    (λ q. absurd (cc))
     (λ _. confirm_act (with_queue c (without c.queue p.0)) (message_at c p) l n k t)
 
 module _ (c₀ : Cluster) (i₀ : InvAt (world [] c₀) [] c₀) where
@@ -130,7 +130,7 @@ module _ (c₀ : Cluster) (i₀ : InvAt (world [] c₀) [] c₀) where
   confirmed_lac : {h : History} {c : Cluster} → Runs [] c₀ h c → (l : LedgerId) (e : EntryId) → Confirmed h l e → e.0 < (writer_of c l.0).lac
   confirmed_lac stay l e z = absurd z
   confirmed_lac (more {h = h} {c = c} s r) l e (inl (m, (p, did, took), t, n, said, lt)) =
-      subst (λ (v : Step). (step c v).answer ≡ answer.Confirmed n → e.0 < n.0 → e.0 < (writer_of (step c v).next l.0).lac) (sym did)
+      subst (λ (v : Step). (step c v).answer ≡ Ok (answer.Confirmed n) → e.0 < n.0 → e.0 < (writer_of (step c v).next l.0).lac) (sym did)
       (confirm_deliver c p l n e.0 (subst (ToWriter l) (sym took) t)) said lt
   confirmed_lac (more {h = h} {c = c} s r) l e (inr z) =
       let p = confirmed_lac r l e z in let q = (step_later (notes h) c s (run_keeps r i₀)).lac l.0 in omega arith
@@ -142,7 +142,7 @@ ClosedAs c l a = IsClosed c l × (a ≡ answer.ClosingEntry (ledger_of c l.0).cl
 
 -- an accepted close or finish, at the step itself
 abbrev Says : LedgerId → Outcome → Type 0
-Says l o = is_accepted o.answer ≡ true → (o.answer ≡ answer.Lost → ⊥) → ClosedAs o.next l o.answer
+Says l o = IfOk o.answer (λ a. a ≢ answer.Lost → ClosedAs o.next l a)
 
 -- what was written is found
 put_known : (s : Store) (l : ℕ) (m : Metadata) → length s.ledgers ≡ max_ledgers → is_ledger l ≡ true → metadata_of (written s l m) l ≡ m
@@ -158,17 +158,14 @@ closed_known c l v y n sized q =
 -- what an accepted close says
 close_says : {x₀ : World} (ns : List Note) (c : Cluster) (l : LedgerId) → InvAt x₀ ns c → Says l (close c l)
 close_says ns c l i =
-    ask_cases c (Says l) (is_made w.state) (fault.Missing 1) _ refusing
-    (λ _. writing_asked w _ (λ r. Says l (by_client c r (closed c l w (close_store w c.store l)))) (λ f. refusing)
-    (λ _ _. asked (eqb (length w.pending) 0) client.Pending _ (λ r. Says l (by_client c r (closed c l w (close_store w c.store l)))) refusing
+    ask_cases c (Says l) (is_made w.state) (fault.Missing 1) _ tt
+    (λ _. writing_asked w _ (λ r. Says l (by_client c r (closed c l w (close_store w c.store l)))) (λ f. tt)
+    (λ _ _. asked (eqb (length w.pending) 0) client.Pending _ (λ r. Says l (by_client c r (closed c l w (close_store w c.store l)))) tt
     (λ _. put_cases c.store l (λ r s. Says l (by_client c (by_put (lac_id w.lac) r) (closed c l w s))) (version_id w.version) Closed w.layout (lac_id w.lac)
-    (λ f q. rw q refusing) (λ _ _ lost. absurd (lost refl)) (λ q30 _ _ _. closed_known c l (version_id (suc w.version)) w.layout (lac_id w.lac) i.ledgers q30))))
+    (λ f q. rw q tt) (λ _ lost. absurd (lost refl)) (λ q30 _ _. closed_known c l (version_id (suc w.version)) w.layout (lac_id w.lac) i.ledgers q30))))
   where
     w : Writer
     w = writer_of c l.0
-
-    refusing : {f : StepFault} → Says l (refuse c f)
-    refusing h _ = absurd (false≢true h)
 
 -- past the version of a recovery the ledger is closed
 pub under_other : (m : Metadata) (v : ℕ) → Under m v → (m.version.0 ≡ v → ⊥) → m.state ≡ Closed
@@ -178,22 +175,19 @@ under_other m v (inr z) ne = z.0
 -- what an accepted finish says
 finish_says : {x₀ : World} (ns : List Note) (c : Cluster) (r : RecovererId) → InvAt x₀ ns c → Says (recoverer_of c r.0).ledger (finish c r)
 finish_says ns c r i =
-    ask_cases c (Says l) (at_work R.phase) (fault.Missing 1) _ refusing
-    (λ q4. asked (is_ended R.phase) client.Unfinished _ (λ a. Says l (by_client c a (λ n. done (answer.ClosingEntry n) (with_recoverer (with_store c (finish_store R c.store)) r.0 no_recoverer)))) refusing
+    ask_cases c (Says l) (at_work R.phase) (fault.Missing 1) _ tt
+    (λ q4. asked (is_ended R.phase) client.Unfinished _ (λ a. Says l (by_client c a (λ n. done (answer.ClosingEntry n) (with_recoverer (with_store c (finish_store R c.store)) r.0 no_recoverer)))) tt
     (λ _. put_cases c.store l
     (λ a s. Says l (by_client c (finished R c.store a) (λ n. done (answer.ClosingEntry n) (with_recoverer (with_store c s) r.0 no_recoverer))))
-    R.version Closed R.layout R.settled (λ f q. rw q refusing)
-    (λ ne _ _. (under_other (ledger_of c l.0) R.version.0 (i.recoverers r.0 q4).under ne, refl))
-    (λ q30 _ _ _. closed_known c l (version_id (suc R.version.0)) R.layout R.settled i.ledgers q30)))
+    R.version Closed R.layout R.settled (λ f q. rw q tt)
+    (λ ne _. (under_other (ledger_of c l.0) R.version.0 (i.recoverers r.0 q4).under ne, refl))
+    (λ q30 _ _. closed_known c l (version_id (suc R.version.0)) R.layout R.settled i.ledgers q30)))
   where
     R : Recoverer
     R = recoverer_of c r.0
 
     l : LedgerId
     l = (recoverer_of c r.0).ledger
-
-    refusing : {f : StepFault} → Says l (refuse c f)
-    refusing h _ = absurd (false≢true h)
 
 -- what either says
 closes_says : {x₀ : World} (ns : List Note) (c : Cluster) (s : Step) (l : LedgerId) → InvAt x₀ ns c → Closes l (event c s) → Says l (step c s)
@@ -210,19 +204,19 @@ module _ (c₀ : Cluster) (i₀ : InvAt (world [] c₀) [] c₀) where
   -- it still holds at every later time
   closed_run : {h : History} {c : Cluster} → Runs [] c₀ h c → (l : LedgerId) (a : Answer) → Once (ClosedWith l a) h → ClosedAs c l a
   closed_run stay l a z = absurd z
-  closed_run (more {h = h} {c = c} s r) l a (inl (closes, said, accepted, kept_on)) =
-      subst (ClosedAs (step c s).next l) said
-      (closes_says (notes h) c s l (run_keeps r i₀) closes (ap is_accepted said ∙ accepted) (λ lost. kept_on (sym said ∙ lost)))
+  closed_run (more {h = h} {c = c} s r) l a (inl (closes, said, kept_on)) =
+      subst (λ (v : Result Answer StepFault). IfOk v (λ b. b ≢ answer.Lost → ClosedAs (step c s).next l b)) said
+      (closes_says (notes h) c s l (run_keeps r i₀) closes) kept_on
   closed_run (more {h = h} {c = c} s r) l a (inr z) = closed_stays (step_later (notes h) c s (run_keeps r i₀)) l.0 a (closed_run r l a z)
 
 -- contents -----------------------------------------------------------------------------------------------------------
 -- a step appended this content as entry e of ledger l
 abbrev NewContent : ℕ → ℕ → Body → Cluster → Step → Type 0
-NewContent l e body c s = (s ≡ Append (ledger_id l) body) × ((step c s).answer ≡ answer.Entry (entry_id e))
+NewContent l e body c s = (s ≡ Append (ledger_id l) body) × ((step c s).answer ≡ Ok (answer.Entry (entry_id e)))
 
 -- an append is answered by the next entry, or refused
-append_cases : {x₀ : World} (ns : List Note) (c : Cluster) (l : LedgerId) (body : Body) (P : Answer → Type 0) → InvAt x₀ ns c → ((f : StepFault) → P (answer.Refused f))
-    → ((e : ℕ) → length (contents_of ns l.0) ≡ e → P (answer.Entry (entry_id e))) → P (append c l body).answer
+append_cases : {x₀ : World} (ns : List Note) (c : Cluster) (l : LedgerId) (body : Body) (P : Result Answer StepFault → Type 0) → InvAt x₀ ns c → ((f : StepFault) → P (Err f))
+    → ((e : ℕ) → length (contents_of ns l.0) ≡ e → P (Ok (answer.Entry (entry_id e)))) → P (append c l body).answer
 append_cases ns c l body P i bad good =
     ask_cases c P' (is_made w.state) (fault.Missing 1) _ (bad (fault.Missing 1))
     (λ _. writing_asked w _ K (λ f. bad (fault.Client f)) (λ q7 q8. asked (has_room w) client.Full _ K (bad (fault.Client client.Full))
@@ -245,27 +239,27 @@ appended_content : {x₀ : World} (ns : List Note) (c : Cluster) (l : LedgerId) 
 appended_content ns c l b k e body i =
     append_cases ns c l b
     (λ a. ContentAt (contents_of (note_of (Append l b) c a ∷ ns) k) e body
-    → ((Append l b ≡ Append (ledger_id k) body) × (a ≡ answer.Entry (entry_id e))) ⊎ ContentAt (contents_of ns k) e body)
+    → ((Append l b ≡ Append (ledger_id k) body) × (a ≡ Ok (answer.Entry (entry_id e)))) ⊎ ContentAt (contents_of ns k) e body)
     i (λ f h. inr h)
     (λ n len. cond_both (eqb l.0 k) (ts ++ (b ∷ [])) ts
-    (λ T. ContentAt T e body → ((Append l b ≡ Append (ledger_id k) body) × (answer.Entry (entry_id n) ≡ answer.Entry (entry_id e))) ⊎ ContentAt ts e body)
+    (λ T. ContentAt T e body → ((Append l b ≡ Append (ledger_id k) body) × (◌≡◌ {A = Result Answer StepFault} (Ok (answer.Entry (entry_id n))) (Ok (answer.Entry (entry_id e))))) ⊎ ContentAt ts e body)
     (λ q h. one n (subst (λ (v : ℕ). length (contents_of ns v) ≡ n) (eqb-true l.0 k q) len) (eqb-true l.0 k q) h) (λ _ h. inr h))
   where
     ts : List Body
     ts = contents_of ns k
 
     one : (n : ℕ) → length (contents_of ns k) ≡ n → l.0 ≡ k → ContentAt (contents_of ns k ++ (b ∷ [])) e body
-        → ((Append l b ≡ Append (ledger_id k) body) × (answer.Entry (entry_id n) ≡ answer.Entry (entry_id e))) ⊎ ContentAt (contents_of ns k) e body
+        → ((Append l b ≡ Append (ledger_id k) body) × (◌≡◌ {A = Result Answer StepFault} (Ok (answer.Entry (entry_id n))) (Ok (answer.Entry (entry_id e))))) ⊎ ContentAt (contents_of ns k) e body
     one n len same h =
         elim (cases_lt e (length (contents_of ns k))) [
           | inl z ↦ inr (z, sym (get_or_append_left (contents_of ns k) (b ∷ []) no_body e z) ∙ h.1)
           | inr z ↦ (let u = h.0 in let g = length-append (contents_of ns k) (b ∷ []) in let q : length (contents_of ns k) ≡ e = omega arith in
               let text : b ≡ body = sym (get_or_at (contents_of ns k) b [] no_body e q) ∙ h.1 in
-              inl (ap (λ (v : ℕ). Append (ledger_id v) b) same ∙ ap (λ (v : Body). Append (ledger_id k) v) text, ap (λ (v : ℕ). answer.Entry (entry_id v)) (sym len ∙ q)))
+              inl (ap (λ (v : ℕ). Append (ledger_id v) b) same ∙ ap (λ (v : Body). Append (ledger_id k) v) text, ap (λ (v : ℕ). Ok (answer.Entry (entry_id v))) (sym len ∙ q)))
         ]
 
 -- a delivery appends nothing
-no_content : (m : Message) (a : Answer) (l : ℕ) (ts : List Body) → add_content (delivery_note m a) l ts ≡ ts
+no_content : (m : Message) (a : Result Answer StepFault) (l : ℕ) (ts : List Body) → add_content (delivery_note m a) l ts ≡ ts
 no_content (Fence r l' b) a l ts = refl
 no_content (RecoveryRead r l' b e) a l ts = refl
 no_content (Add l' b e n body) a l ts =
@@ -301,10 +295,10 @@ content_step ns c (Start b) l e body i h = inr h
 new_content : {x₀ : World} (ns : List Note) (c : Cluster) (s : Step) (l e : ℕ) (body : Body) → InvAt x₀ ns c → NewContent l e body c s
     → ContentAt (contents_of (note_of s c (step c s).answer ∷ ns) l) e body
 new_content ns c s l e body i (did, said) =
-    subst (λ (v : Step). (step c v).answer ≡ answer.Entry (entry_id e) → ContentAt (contents_of (note_of v c (step c v).answer ∷ ns) l) e body) (sym did)
+    subst (λ (v : Step). (step c v).answer ≡ Ok (answer.Entry (entry_id e)) → ContentAt (contents_of (note_of v c (step c v).answer ∷ ns) l) e body) (sym did)
     (append_cases ns c (ledger_id l) body
-    (λ a. a ≡ answer.Entry (entry_id e) → ContentAt (contents_of (note_of (Append (ledger_id l) body) c a ∷ ns) l) e body) i
-    (λ f q. let z : ◌≡◌ {A = ℕ} 0 1 = cc in let v : ⊥ = omega arith in absurd v)
+    (λ a. a ≡ Ok (answer.Entry (entry_id e)) → ContentAt (contents_of (note_of (Append (ledger_id l) body) c a ∷ ns) l) e body) i
+    (λ f q. absurd (cc))
     (λ n len q. let same : entry_id n ≡ entry_id e = cc in
     rw (eq-eqb l l refl) (content_last (contents_of ns l) body e (len ∙ ap (λ (v : EntryId). v.0) same)))) said
 
@@ -331,8 +325,7 @@ fence_answered : {x₀ : World} (ns : List Note) (c : Cluster) (p : MessagePlace
 fence_answered ns c p r l b n i q =
     elim (cases_Bool (waits c p)) [
       | inl z ↦ (subst (MessageOk (world ns c)) q (waiting_ok ns c p i z)).0
-      | inr z ↦ (let blank : message_at c p ≡ no_message = get_or_past c.queue.waiting p.0 no_message (ltb-false p.0 (length c.queue.waiting) z) in
-          let bad : ◌≡◌ {A = ℕ} 0 1 = cc in let v : ⊥ = omega arith in absurd v)
+      | inr z ↦ (let blank : message_at c p ≡ no_message = get_or_past c.queue.waiting p.0 no_message (ltb-false p.0 (length c.queue.waiting) z) in absurd (cc))
     ]
 
 module _ (c₀ : Cluster) (i₀ : InvAt (world [] c₀) [] c₀) where

@@ -1,7 +1,8 @@
 -- The invariant. A world is what its facts are about: the cluster as functions of numbers, and of the run so far the
 -- contents that were appended, and which bookie acknowledged which entry to its writer.
-use Rattle.std.proofs.Common.{◌≡◌, ℕ, suc, ◌<◌, ◌≤◌, Bool, true, false, cond, not, ◌&&◌, ◌||◌, eqb, ◌⊎◌, List, [], ◌∷◌, ◌++◌, length, get_or, take}
+use Rattle.std.proofs.Common.{◌≡◌, ℕ, suc, ◌<◌, ◌≤◌, Bool, true, false, cond, not, ◌&&◌, ◌||◌, eqb, ◌⊎◌, List, [], ◌∷◌, ◌++◌, length, get_or, take, Ok, Err, Result}
 use Rattle.std.specs.List.{AllByRecursion}
+use Rattle.std.specs.Result.{is_ok}
 use Rattle.ledgers.specs.Limits.{max_ledgers, max_entries}
 use Rattle.ledgers.specs.declared.bodies.Body.{Body}
 use Rattle.ledgers.specs.declared.steps.Step.{Step}
@@ -21,11 +22,11 @@ use Rattle.protocol.specs.Bookies.{Bookie, holds, is_fenced}
 use Rattle.protocol.specs.Writers.{Writer, is_made, is_shut_out, is_closed}
 use Rattle.protocol.specs.Recoverers.{at_work}
 use Rattle.protocol.specs.Clusters.{Cluster, bookie_of, writer_of, recoverer_of, ledger_of}
-use Rattle.protocol.specs.Answers.{is_accepted}
 use Rattle.protocol.specs.Steps.{Outcome, message_at}
 use Rattle.protocol.specs.Histories.{History}
 use Rattle.protocol.specs.declared.answers.Answer.{Answer}
 use Rattle.protocol.specs.declared.answers.Answer.TheVariants as answer
+use Rattle.protocol.specs.declared.faults.StepFault.{StepFault}
 use Rattle.protocol.specs.declared.recoverers.Phase.{Phase}
 use Rattle.protocol.specs.declared.recoverers.Phase.TheVariants.{Idle, Fencing, Reading, Writing, Ended}
 use Rattle.protocol.specs.declared.recoverers.Recoverer.{Recoverer}
@@ -38,23 +39,22 @@ pub data Note : Type 0 where
   ack_note : (l e b : ℕ) → Note
 
 -- the bookie did what it was asked
-abbrev pub is_served : Answer → Bool
-is_served (answer.Refused f) = false
-is_served (answer.Version v) = false
-is_served (answer.Entry e) = false
-is_served (answer.Waiting n) = false
-is_served (answer.FirstEntry e) = false
-is_served (answer.ClosingEntry n) = false
-is_served (answer.Confirmed n) = false
-is_served (answer.Settled n) = false
-is_served answer.Idle = false
-is_served answer.Lost = false
-is_served answer.Served = true
-is_served (answer.Unserved f) = false
-is_served answer.Done = false
+abbrev pub is_served : Result Answer StepFault → Bool
+is_served (Ok (answer.Version v)) = false
+is_served (Ok (answer.Entry e)) = false
+is_served (Ok (answer.Waiting n)) = false
+is_served (Ok (answer.FirstEntry e)) = false
+is_served (Ok (answer.ClosingEntry n)) = false
+is_served (Ok (answer.Confirmed n)) = false
+is_served (Ok (answer.Settled n)) = false
+is_served (Ok answer.Idle) = false
+is_served (Ok answer.Lost) = false
+is_served (Ok (answer.Served r)) = is_ok r
+is_served (Ok answer.Done) = false
+is_served (Err f) = false
 
 -- the note of the delivery of a message that was answered by a
-abbrev pub delivery_note : Message → Answer → Note
+abbrev pub delivery_note : Message → Result Answer StepFault → Note
 delivery_note (Fence r l b) a = nothing
 delivery_note (RecoveryRead r l b e) a = nothing
 delivery_note (Add l b e n body) a = cond (is_served a) (ack_note l.0 e.0 b.0) nothing
@@ -68,9 +68,9 @@ delivery_note (RecoveryAdded r l b e) a = nothing
 delivery_note (Refused r l b f) a = nothing
 
 -- the note of a step from cluster c that was answered by a
-abbrev pub note_of : Step → Cluster → Answer → Note
+abbrev pub note_of : Step → Cluster → Result Answer StepFault → Note
 note_of (Create l e w k bs) c a = nothing
-note_of (Append l body) c a = cond (is_accepted a) (content_note l.0 body) nothing
+note_of (Append l body) c a = cond (is_ok a) (content_note l.0 body) nothing
 note_of (Resend l) c a = nothing
 note_of (ChangeEnsemble l p b) c a = nothing
 note_of (Close l) c a = nothing

@@ -2,7 +2,7 @@
 use Rattle.std.proofs.Common.{◌≡◌, ℕ, zero, suc, ◌+◌, ◌-◌, ◌<◌, ◌≤◌, min, Bool, true, false, cond, not, ◌&&◌, eqb, ltb, leb, List, [], ◌∷◌, ◌++◌, map, length, get_or, take, set, Some, None, Ok, Option, Result, sym, refl, ap, ◌∙◌, subst, inl, inr, arith, length-append, length-set}
 use Rattle.std.specs.List.{AllByRecursion}
 use Rattle.std.proofs.ByRecursion.{All-append}
-use Rattle.std.proofs.lemmas.List.{get_or-set_same, get_or-set_other, get_or_append_left, get_or_at, length-take}
+use Rattle.std.proofs.lemmas.List.{get_or-set_same, get_or-set_other, get_or_append_left, get_or_at, length-take, take_min}
 use Rattle.std.proofs.lemmas.Bool.{and_parts, both_ways, not-true, true≢false, cond_both, cond-true, cond-false, eqb-true, eqb-false, ltb-true, le-leb, lt-leb, or_cases}
 use Rattle.ledgers.specs.Limits.{max_entries, max_fragments, max_pending, is_ledger}
 use Rattle.ledgers.specs.Ids.{bookie_id, entry_id, lac_id, version_id}
@@ -50,19 +50,13 @@ absent_known None h = refl
 absent_known (Some m) h = absurd (true≢false h)
 
 -- create -------------------------------------------------------------------------------------------------------------
--- as much as is taken
-take_length : {A : Type 0} (n : ℕ) (xs : List A) → take (length (take n xs)) xs ≡ take n xs
-take_length zero xs = refl
-take_length (suc n) [] = refl
-take_length (suc n) (x ∷ xs) = ap (λ ys. x ∷ ys) (take_length n xs)
-
 -- one different bookie for each position
 listed_ok : (s : Sizes) (bs : BookieList) → (eqb (length (listed bs)) s.ensemble && distinct (listed bs)) ≡ true → LayoutOk (first_layout s (by_position bs))
 listed_ok s bs h =
     let p = and_parts (eqb (length (listed bs)) s.ensemble) (distinct (listed bs)) h in
     let n : length (listed bs) ≡ s.ensemble = eqb-true (length (listed bs)) s.ensemble p.0 in
     first_layout_ok s (by_position bs) (let k = length-take bs.0.count (by_position bs) in omega arith)
-    (subst (λ (k : ℕ). distinct (take k (by_position bs)) ≡ true) n (rw (take_length bs.0.count (by_position bs)) p.1))
+    (subst (λ (k : ℕ). distinct (take k (by_position bs)) ≡ true) n (rw (length-take bs.0.count (by_position bs), take_min bs.0.count (by_position bs)) p.1))
 
 -- a ledger is created
 pub create_keeps : {x₀ : World} (ns : List Note) (c : Cluster) (l : LedgerId) (e w k : ℕ) (bs : BookieList) → InvAt x₀ ns c

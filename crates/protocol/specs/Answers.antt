@@ -1,8 +1,8 @@
 -- The number and the value that are printed for an answer.
-use Rattle.std.specs.Prelude.{ℕ, zero, suc, Bool, true, false, ℤ, pos, negsuc}
+use Rattle.std.specs.Prelude.{ℕ, zero, suc, ℤ, pos, negsuc, Ok, Err, Result}
 use Rattle.messages.specs.Faults.{bookie_number, store_number}
 use Rattle.protocol.specs.declared.answers.Answer.{Answer}
-use Rattle.protocol.specs.declared.answers.Answer.TheVariants.{Refused, Version, Entry, Waiting, FirstEntry, ClosingEntry, Confirmed, Settled, Idle, Lost, Served, Unserved, Done}
+use Rattle.protocol.specs.declared.answers.Answer.TheVariants.{Version, Entry, Waiting, FirstEntry, ClosingEntry, Confirmed, Settled, Idle, Lost, Served, Done}
 use Rattle.protocol.specs.declared.faults.ClientFault.{ClientFault}
 use Rattle.protocol.specs.declared.faults.ClientFault.TheVariants as client
 use Rattle.protocol.specs.declared.faults.StepFault.{StepFault}
@@ -26,36 +26,9 @@ step_number fault.Taken = 5
 step_number (fault.Client f) = client_number f
 
 -- the refusal number, 0 for what is accepted
-abbrev pub refusal : Answer → ℕ
-refusal (Refused f) = step_number f
-refusal (Version v) = 0
-refusal (Entry e) = 0
-refusal (Waiting n) = 0
-refusal (FirstEntry e) = 0
-refusal (ClosingEntry n) = 0
-refusal (Confirmed n) = 0
-refusal (Settled n) = 0
-refusal Idle = 0
-refusal Lost = 0
-refusal Served = 0
-refusal (Unserved f) = 0
-refusal Done = 0
-
--- the step was not refused
-abbrev pub is_accepted : Answer → Bool
-is_accepted (Refused f) = false
-is_accepted (Version v) = true
-is_accepted (Entry e) = true
-is_accepted (Waiting n) = true
-is_accepted (FirstEntry e) = true
-is_accepted (ClosingEntry n) = true
-is_accepted (Confirmed n) = true
-is_accepted (Settled n) = true
-is_accepted Idle = true
-is_accepted Lost = true
-is_accepted Served = true
-is_accepted (Unserved f) = true
-is_accepted Done = true
+abbrev pub refusal : Result Answer StepFault → ℕ
+refusal (Ok a) = 0
+refusal (Err f) = step_number f
 
 -- the last of the first n entries, -1 where there is none
 abbrev pub last_of : ℕ → ℤ
@@ -69,17 +42,17 @@ word_of fault.Taken = 0
 word_of (fault.Client f) = 0
 
 -- the value that is printed
-abbrev pub value : Answer → ℤ
-value (Refused f) = pos (word_of f)
-value (Version v) = pos v.0
-value (Entry e) = pos e.0
-value (Waiting n) = pos n
-value (FirstEntry e) = pos e.0
-value (ClosingEntry n) = last_of n.0
-value (Confirmed n) = last_of n.0
-value (Settled n) = last_of n.0
-value Idle = negsuc 0
-value Lost = negsuc 2
-value Served = pos 0
-value (Unserved f) = pos (bookie_number f)
-value Done = pos 0
+abbrev pub value : Result Answer StepFault → ℤ
+value (Ok (Version v)) = pos v.0
+value (Ok (Entry e)) = pos e.0
+value (Ok (Waiting n)) = pos n
+value (Ok (FirstEntry e)) = pos e.0
+value (Ok (ClosingEntry n)) = last_of n.0
+value (Ok (Confirmed n)) = last_of n.0
+value (Ok (Settled n)) = last_of n.0
+value (Ok Idle) = negsuc 0
+value (Ok Lost) = negsuc 2
+value (Ok (Served (Ok u))) = pos 0
+value (Ok (Served (Err f))) = pos (bookie_number f)
+value (Ok Done) = pos 0
+value (Err f) = pos (word_of f)

@@ -1,5 +1,6 @@
 -- Histories of steps from a cluster set up empty, and what is said of them.
-use Rattle.std.specs.Prelude.{◌≡◌, ℕ, ◌<◌, Bool, true, ◌⊎◌, List, [], ◌∷◌, ◌≢◌, slice_index}
+use Rattle.std.specs.Prelude.{◌≡◌, ℕ, ◌<◌, Bool, true, ◌⊎◌, List, [], ◌∷◌, Ok, Result, ◌≢◌, slice_index}
+use Rattle.std.specs.Result.{IsOk}
 use Rattle.ledgers.specs.Ids.{bookie_id}
 use Rattle.ledgers.specs.declared.bodies.Body.{Body}
 use Rattle.ledgers.specs.declared.ids.BookieId.{BookieId}
@@ -17,16 +18,16 @@ use Rattle.messages.specs.declared.messages.Message.{Message}
 use Rattle.messages.specs.declared.messages.Message.TheVariants.{Added, AddRefused, Fenced}
 use Rattle.protocol.specs.Recoverers.{at_work}
 use Rattle.protocol.specs.Clusters.{Cluster, empty, phase_of, recovering, layout_read}
-use Rattle.protocol.specs.Answers.{is_accepted}
 use Rattle.protocol.specs.Steps.{message_at, step}
 use Rattle.protocol.specs.declared.answers.Answer.{Answer}
 use Rattle.protocol.specs.declared.answers.Answer.TheVariants as answer
+use Rattle.protocol.specs.declared.faults.StepFault.{StepFault}
 
 -- a step, the cluster before it and what it answered
 pub record Event : Type 0 where
   pub before : Cluster
   pub did : Step
-  pub said : Answer
+  pub said : Result Answer StepFault
 
 -- the last event first
 abbrev pub History : Type 0
@@ -51,7 +52,7 @@ after c [] = c
 after c (s ∷ ss) = after (step c s).next ss
 
 -- what they are answered,
-abbrev pub answers : Cluster → List Step → List Answer
+abbrev pub answers : Cluster → List Step → List (Result Answer StepFault)
 answers c [] = []
 answers c (s ∷ ss) = (step c s).answer ∷ answers (step c s).next ss
 
@@ -71,12 +72,12 @@ Delivered v m = (p : MessagePlace) × (v.did ≡ Deliver p) × (message_at v.bef
 
 -- the event is accepted
 abbrev pub Accepted : Event → Type 0
-Accepted v = is_accepted v.said ≡ true
+Accepted v = IsOk v.said
 
 -- appended and confirmed ---------------------------------------------------------------------------------------------
 -- an append was answered by entry e of ledger l, and body is its content
 abbrev pub Appended : History → LedgerId → EntryId → Body → Type 0
-Appended h l e body = Once (λ v. (v.did ≡ Append l body) × (v.said ≡ answer.Entry e)) h
+Appended h l e body = Once (λ v. (v.did ≡ Append l body) × (v.said ≡ Ok (answer.Entry e))) h
 
 -- the message is a reply to the writer of ledger l
 abbrev pub ToWriter : LedgerId → Message → Type 0
@@ -86,7 +87,7 @@ ToWriter l m =
 -- the delivery of a reply to the writer of ledger l was answered by entry e or a higher LAC
 abbrev pub Confirmed : History → LedgerId → EntryId → Type 0
 Confirmed h l e =
-    Once (λ v. (m : Message) × Delivered v m × ToWriter l m × (n : Lac) × (v.said ≡ answer.Confirmed n) × (e.0 < n.0)) h
+    Once (λ v. (m : Message) × Delivered v m × ToWriter l m × (n : Lac) × (v.said ≡ Ok (answer.Confirmed n)) × (e.0 < n.0)) h
 
 -- closed -------------------------------------------------------------------------------------------------------------
 -- the event asked to close ledger l, for its writer or for the recoverer that was at it
@@ -95,7 +96,7 @@ Closes l v = (v.did ≡ Close l) ⊎ ((r : RecovererId) × (v.did ≡ Finish r) 
 
 -- and was accepted with answer a, which is not that the writer lost its ledger
 abbrev pub ClosedWith : LedgerId → Answer → Event → Type 0
-ClosedWith l a v = Closes l v × (v.said ≡ a) × (is_accepted a ≡ true) × (a ≢ answer.Lost)
+ClosedWith l a v = Closes l v × (v.said ≡ Ok a) × (a ≢ answer.Lost)
 
 -- fence rounds -------------------------------------------------------------------------------------------------------
 -- the event started recoverer r

@@ -1,6 +1,7 @@
 -- What holds after every list of steps from a cluster set up empty.
-use Rattle.std.specs.Prelude.{◌≡◌, ℕ, ◌<◌, ◌≤◌, Bool, true, false, ◌⊎◌, List, ◌∷◌, ◌≢◌}
+use Rattle.std.specs.Prelude.{◌≡◌, ℕ, ◌<◌, ◌≤◌, Bool, true, false, ◌⊎◌, List, ◌∷◌, Ok, ◌≢◌}
 use Rattle.std.specs.List.{AllByRecursion}
+use Rattle.std.specs.Result.{IsErr}
 use Rattle.ledgers.specs.declared.bodies.Body.{Body}
 use Rattle.ledgers.specs.declared.ids.EntryId.{EntryId}
 use Rattle.ledgers.specs.declared.ids.Lac.{Lac}
@@ -16,7 +17,6 @@ use Rattle.messages.specs.declared.metadata.LedgerState.TheVariants.{InRecovery,
 use Rattle.protocol.specs.Bookies.{holds}
 use Rattle.protocol.specs.Recoverers.{at_work, is_ended}
 use Rattle.protocol.specs.Clusters.{Cluster, bookie_of, recoverer_of, phase_of, recovering, layout_read, ledger_of}
-use Rattle.protocol.specs.Answers.{is_accepted}
 use Rattle.protocol.specs.Steps.{finish, step}
 use Rattle.protocol.specs.Histories.{History, event, Runs, Reached, after, noting, Once, Appended, Confirmed, ClosedWith, Covered}
 use Rattle.protocol.specs.declared.answers.Answer.{Answer}
@@ -99,7 +99,7 @@ pub record Rounds (h : History) (c : Cluster) : Type 0 where
   -- an ended recoverer that finds another version than its own has lost the race: the ledger is closed, and its finish
   -- answers the closing entry
   pub late : (r : RecovererId) → is_ended (phase_of c r) ≡ true → ((version_of c (recovering c r)).0 ≢ (recoverer_of c r.0).version.0)
-      → IsClosed c (recovering c r) × ((finish c r).answer ≡ answer.ClosingEntry (closing_of c (recovering c r)))
+      → IsClosed c (recovering c r) × ((finish c r).answer ≡ Ok (answer.ClosingEntry (closing_of c (recovering c r))))
 
 -- after every list of steps
 abbrev pub RoundsLaw : Type 0
@@ -123,4 +123,4 @@ ListsGoOn = (c : Cluster) (ss : List Step) → ListGoesOn c ss (after c ss)
 
 -- a step that is refused leaves the cluster as it was
 abbrev pub RefusalsAlterNothing : Type 0
-RefusalsAlterNothing = (c : Cluster) (s : Step) → is_accepted (step c s).answer ≡ false → (step c s).next ≡ c
+RefusalsAlterNothing = (c : Cluster) (s : Step) → IsErr (step c s).answer → (step c s).next ≡ c

@@ -45,16 +45,16 @@ use Rattle.protocol.specs.declared.recoverers.Recoverer.{Recoverer}
 
 -- what a step answers, and the cluster after it
 pub record Outcome : Type 0 where
-  pub answer : Answer
+  pub answer : Result Answer StepFault
   pub next : Cluster
 
 -- answered so, with this cluster after it
 abbrev pub done : Answer → Cluster → Outcome
-done a c = record { answer = a; next = c }
+done a c = record { answer = Ok a; next = c }
 
 -- a refusal alters nothing
 abbrev pub refuse : Cluster → StepFault → Outcome
-refuse c f = done (answer.Refused f) c
+refuse c f = record { answer = Err f; next = c }
 
 -- a no to a question refuses
 abbrev pub ask : Cluster → Bool → StepFault → Outcome → Outcome
@@ -196,8 +196,8 @@ read_reply r l b e (Err f) = unless_stopped f (Refused r l b f)
 
 -- what the bookie did, as an answer
 abbrev pub served : {A : Type 0} → Result A BookieFault → Answer
-served (Ok a) = answer.Served
-served (Err f) = answer.Unserved f
+served (Ok a) = answer.Served (Ok tt)
+served (Err f) = answer.Served (Err f)
 
 -- a reply makes of the writer what it does: the LAC
 abbrev pub to_writer : Cluster → LedgerId → BookieId → EntryId → Result (Unit {0}) BookieFault → Outcome

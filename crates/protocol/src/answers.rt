@@ -1,11 +1,9 @@
-// What a step answers.
-use crate::faults::StepFault;
+// What a step answers that is not refused.
 use ledgers::ids::{EntryId, Lac, Version};
 use messages::faults::BookieFault;
 
-#[derive(Clone, Copy)]
+#[derive(Clone, Copy, PartialEq, Eq)]
 pub enum Answer {
-    Refused(StepFault),
     // The version of the metadata that was put or read.
     Version(Version),
     // The entry that was appended.
@@ -24,10 +22,8 @@ pub enum Answer {
     Idle,
     // The writer lost its ledger to a recovery, and is fenced.
     Lost,
-    // The bookie did what it was asked,
-    Served,
-    // or refused it.
-    Unserved(BookieFault),
+    // Whether the bookie did what it was asked.
+    Served(Result<(), BookieFault>),
     // It is done.
     Done,
 }

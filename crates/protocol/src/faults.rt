@@ -6,7 +6,7 @@ ghost use Rattle.protocol.specs.declared.faults.StepFault.TheVariants.{Client as
 use messages::faults::StoreFault;
 
 // Why a client refuses, in the order of its questions.
-#[derive(Clone, Copy)]
+#[derive(Clone, Copy, PartialEq, Eq)]
 pub enum ClientFault {
     // Sizes out of order, not one different bookie for each position; or a bookie that is in the ensemble already, a
     // position that is not: 6.
@@ -27,7 +27,7 @@ pub enum ClientFault {
 }
 
 // Why a step is refused.
-#[derive(Clone, Copy)]
+#[derive(Clone, Copy, PartialEq, Eq)]
 pub enum StepFault {
     // What this word of the step names does not exist, the step's letter being word 0: 4.
     Missing { word: u32 },

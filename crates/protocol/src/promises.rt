@@ -3,43 +3,31 @@ ghost use Rattle.protocol.specs.Law.{Law, RoundsLaw, StepsGoOn, ListsGoOn, Refus
 ghost use Rattle.protocol.specs.Cases.{Cases};
 
 // A closed ledger keeps its word, after every list of steps.
-pub fn closed_ledger_keeps_its_word() -> u8
+pub fn closed_ledger_keeps_its_word()
     ensures { Law }
-{
-    0
-}
+{}
 
 // A recovery goes by its rounds, after every list of steps.
-pub fn recoveries_go_by_rounds() -> u8
+pub fn recoveries_go_by_rounds()
     ensures { RoundsLaw }
-{
-    0
-}
+{}
 
 // Whatever led to a cluster, a step goes on from there, and both laws hold after it.
-pub fn steps_go_on() -> u8
+pub fn steps_go_on()
     ensures { StepsGoOn }
-{
-    0
-}
+{}
 
 // And so do any steps, one after the other.
-pub fn lists_go_on() -> u8
+pub fn lists_go_on()
     ensures { ListsGoOn }
-{
-    0
-}
+{}
 
 // A step that is refused leaves the cluster as it was.
-pub fn refusals_alter_nothing() -> u8
+pub fn refusals_alter_nothing()
     ensures { RefusalsAlterNothing }
-{
-    0
-}
+{}
 
 // The checked cases come out as they should.
-pub fn cases_hold() -> u8
+pub fn cases_hold()
     ensures { Cases }
-{
-    0
-}
+{}

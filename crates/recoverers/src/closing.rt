@@ -14,25 +14,24 @@ use protocol::recoverers::{Phase, Recoverer};
 use stores::calls::Store;
 
 // Takes a ledger over: an open one is put in recovery, one in recovery is taken as read, and a closed one is refused.
+#[tactic(auto, using(crate::proofs::Found::begun_open, crate::proofs::Found::begun_again))]
 pub fn begin<S: Store>(ledgers: &mut S, ledger: LedgerId) -> Result<Recoverer, ClientFault>
     ensures answer { result ≡ begin_recovery (store S.Store.ledgers S.Store.changes ledgers.old) ledger }
     ensures after { store S.Store.ledgers S.Store.changes ledgers.new ≡ recover_store (store S.Store.ledgers S.Store.changes ledgers.old) ledger }
 {
     let found = ledgers.get(ledger)?;
-    match found.state {
-        LedgerState::Open => {
-            let version = ledgers.put(
-                ledger,
-                found.version,
-                LedgerState::InRecovery,
-                &found.layout,
-                Lac(0),
-            )?;
-            Ok(new_recoverer(ledger, version, &found.layout))
-        }
-        LedgerState::InRecovery => Ok(new_recoverer(ledger, found.version, &found.layout)),
-        LedgerState::Closed => Err(ClientFault::Closed),
-    }
+    let version = match found.state {
+        LedgerState::Open => ledgers.put(
+            ledger,
+            found.version,
+            LedgerState::InRecovery,
+            &found.layout,
+            Lac(0),
+        )?,
+        LedgerState::InRecovery => found.version,
+        LedgerState::Closed => return Err(ClientFault::Closed),
+    };
+    Ok(new_recoverer(ledger, version, &found.layout))
 }
 
 // It fences first. Every entry before the last fragment's first is settled, since an ensemble changes only behind confirmed
@@ -57,9 +56,8 @@ pub fn finish<S: Store>(recoverer: &Recoverer, ledgers: &mut S) -> Result<Lac, C
     ensures answer { result ≡ finish_answer recoverer.now (store S.Store.ledgers S.Store.changes ledgers.old) }
     ensures after { store S.Store.ledgers S.Store.changes ledgers.new ≡ (if is_ended recoverer.now.phase then finish_store recoverer.now (store S.Store.ledgers S.Store.changes ledgers.old) else store S.Store.ledgers S.Store.changes ledgers.old) }
 {
-    match recoverer.phase {
-        Phase::Ended => {}
-        _ => return Err(ClientFault::Unfinished),
+    if !matches!(recoverer.phase, Phase::Ended) {
+        return Err(ClientFault::Unfinished);
     }
     match ledgers.put(
         recoverer.ledger,
@@ -70,6 +68,6 @@ pub fn finish<S: Store>(recoverer: &Recoverer, ledgers: &mut S) -> Result<Lac, C
     ) {
         Ok(_) => Ok(recoverer.settled),
         Err(StoreFault::Version) => Ok(ledgers.get(recoverer.ledger)?.closing),
-        Err(fault) => Err(ClientFault::Store(fault)),
+        Err(fault) => Err(fault.into()),
     }
 }

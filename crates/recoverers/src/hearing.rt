@@ -3,126 +3,83 @@ ghost use Rattle.std.specs.Prelude.{◌≡◌, not, ◌==◌};
 ghost use Rattle.messages.specs.Waiting.{sent};
 ghost use Rattle.waiting.specs.Queues.{queue};
 ghost use Rattle.protocol.specs.Recoverers.{heard, heard_sends, asks, phase_number};
+ghost use Rattle.protocol.specs.declared.recoverers.Recoverer.{Recoverer};
 
 use crate::asking::ask;
-use crate::phases::{at_hand, later, one_more, read_on};
+use crate::phases::{is_awaited, one_more, read_on};
 use ledgers::ids::{EntryId, RecovererId};
 use messages::messages::Message;
 use protocol::recoverers::{Phase, Recoverer};
 use waiting::WaitingList;
 
 pub trait Recovery {
+    // The recoverer of the protocol that it is.
+    ghost recoverer: { Self → Recoverer };
+
     // Hears a reply, and says whether a new phase began.
-    fn hear(&mut self, reply: &Message) -> bool;
+    fn hear(&mut self, reply: &Message) -> bool
+        ensures after { recoverer self.new ≡ heard (recoverer self.old) reply.now }
+        ensures fresh { result ≡ not (phase_number (recoverer self.old).phase == phase_number (recoverer self.new).phase) };
+
+    // Sends the requests of its phase, again where they were sent before, to the positions that have not answered.
+    fn ask_again(&self, number: RecovererId, messages: &mut WaitingList)
+        ensures { queue messages.new ≡ sent (queue messages.old) (asks (recoverer self.now) number) };
 
     // Hears a reply; a new phase sends its requests.
-    fn deliver(&mut self, number: RecovererId, reply: &Message, messages: &mut WaitingList);
-
-    // Sends the requests of its phase again to the positions that have not answered.
-    fn ask_again(&self, number: RecovererId, messages: &mut WaitingList);
+    fn deliver(&mut self, number: RecovererId, reply: &Message, messages: &mut WaitingList)
+        ensures after { recoverer self.new ≡ heard (recoverer self.old) reply.now }
+        ensures sends { queue messages.new ≡ sent (queue messages.old) (heard_sends (recoverer self.old) number reply.now) }
+    {
+        if self.hear(reply) {
+            self.ask_again(number, messages);
+        }
+    }
 }
 
 impl Recovery for Recoverer {
-    fn hear(&mut self, reply: &Message) -> bool
-        ensures after { self.new ≡ heard self.old reply.now }
-        ensures fresh { result ≡ not (phase_number self.old.phase == phase_number self.new.phase) }
-    {
+    ghost recoverer = { λ x. x };
+
+    fn hear(&mut self, reply: &Message) -> bool {
+        if !is_awaited(self, reply) {
+            return false;
+        }
         let sizes = self.layout.sizes();
         let next = EntryId(self.settled.0);
-        match (&mut self.phase, reply) {
-            (
-                Phase::Fencing { marks },
-                Message::Fenced {
-                    ledger,
-                    bookie,
-                    lac,
-                    ..
-                },
-            ) => {
-                if ledger.0 != self.ledger.0 {
-                    return false;
-                }
+        self.phase = match (&mut self.phase, reply) {
+            (Phase::Fencing { marks }, Message::Fenced { bookie, lac, .. }) => {
                 self.layout.mark_ensemble(*bookie, marks);
-                self.settled = later(self.settled, *lac);
+                self.settled = self.settled.max(*lac);
                 if !sizes.covers(marks) {
                     return false;
                 }
-                self.phase = read_on(self.settled);
-                true
+                read_on(self.settled)
             }
-            (
-                Phase::Reading { absent },
-                Message::Absent {
-                    ledger,
-                    bookie,
-                    entry: e,
-                    ..
-                },
-            ) => {
-                if !at_hand(self.ledger, self.settled, ledger, e) {
-                    return false;
-                }
+            (Phase::Reading { absent }, Message::Absent { bookie, .. }) => {
                 self.layout.mark_write_set(next, *bookie, absent);
                 if sizes.marked(next, absent) < sizes.blocking() {
                     return false;
                 }
-                self.phase = Phase::Ended;
-                true
+                Phase::Ended
             }
-            (
-                Phase::Reading { .. },
-                Message::Found {
-                    ledger,
-                    entry: e,
-                    lac,
-                    body,
-                    ..
-                },
-            ) => {
-                if !at_hand(self.ledger, self.settled, ledger, e) {
-                    return false;
-                }
+            (Phase::Reading { .. }, Message::Found { lac, body, .. }) => {
                 self.lac = *lac;
                 self.body = *body;
-                self.phase = Phase::Writing { good: [false; 5] };
-                true
+                Phase::Writing { good: [false; 5] }
             }
-            (
-                Phase::Writing { good },
-                Message::RecoveryAdded {
-                    ledger,
-                    bookie,
-                    entry: e,
-                    ..
-                },
-            ) => {
-                if !at_hand(self.ledger, self.settled, ledger, e) {
-                    return false;
-                }
+            (Phase::Writing { good }, Message::RecoveryAdded { bookie, .. }) => {
                 self.layout.mark_write_set(next, *bookie, good);
                 if sizes.marked(next, good) < sizes.ack_quorum() {
                     return false;
                 }
                 self.settled = one_more(self.settled);
-                self.phase = read_on(self.settled);
-                true
+                read_on(self.settled)
             }
-            _ => false,
-        }
+            _ => return false,
+        };
+        true
     }
 
-    fn deliver(&mut self, number: RecovererId, reply: &Message, messages: &mut WaitingList)
-        ensures after { self.new ≡ heard self.old reply.now }
-        ensures sends { queue messages.new ≡ sent (queue messages.old) (heard_sends self.old number reply.now) }
-    {
-        if self.hear(reply) {
-            ask(self, number, messages);
-        }
-    }
-
-    fn ask_again(&self, number: RecovererId, messages: &mut WaitingList)
-        ensures { queue messages.new ≡ sent (queue messages.old) (asks self.now number) }
-    {
+    fn ask_again(&self, number: RecovererId, messages: &mut WaitingList) {
         ask(self, number, messages);
     }
 }

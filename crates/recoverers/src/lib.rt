@@ -9,6 +9,7 @@ pub mod asking;
 pub mod closing;
 pub mod hearing;
 pub mod phases;
+pub mod rounds;
 
 pub use closing::{begin, finish};
 pub use hearing::Recovery;

@@ -1,9 +1,11 @@
 // From one phase to the next.
-ghost use Rattle.std.specs.Prelude.{◌≡◌, ◌&&◌, ◌==◌};
-ghost use Rattle.protocol.specs.Recoverers.{read_on, higher, next};
+ghost use Rattle.std.specs.Prelude.{◌≡◌};
+ghost use Rattle.protocol.specs.Recoverers.{read_on, next};
+ghost use Rattle.recoverers.specs.Replies.{is_awaited};
 
-use ledgers::ids::{EntryId, Lac, LedgerId, MAX_ENTRIES};
-use protocol::recoverers::Phase;
+use ledgers::ids::{Lac, MAX_ENTRIES};
+use messages::messages::Message;
+use protocol::recoverers::{Phase, Recoverer};
 
 // With so many entries settled the next is read, if there can be one.
 pub(crate) fn read_on(settled: Lac) -> Phase
@@ -14,13 +16,6 @@ pub(crate) fn read_on(settled: Lac) -> Phase
     } else {
         Phase::Reading { absent: [false; 5] }
     }
-}
-
-// The later of two.
-pub(crate) fn later(a: Lac, b: Lac) -> Lac
-    ensures { result.0 ≡ higher a.0 b.0 }
-{
-    if a.0 < b.0 { b } else { a }
 }
 
 // One entry more, as long as there can be one.
@@ -34,9 +29,17 @@ pub(crate) fn one_more(settled: Lac) -> Lac
     }
 }
 
-// Whether a reply is of the ledger that is recovered, and of the entry after the settled ones.
-pub(crate) fn at_hand(own: LedgerId, settled: Lac, ledger: &LedgerId, e: &EntryId) -> bool
-    ensures { result ≡ (ledger.now.0 == own.0 && e.now.0 == settled.0) }
+// Whether a reply is a fence answer of the ledger that is recovered, or any other for the entry after the settled ones.
+pub(crate) fn is_awaited(recoverer: &Recoverer, reply: &Message) -> bool
+    ensures { result ≡ is_awaited recoverer.now reply.now }
 {
-    ledger.0 == own.0 && e.0 == settled.0
+    match reply {
+        Message::Fenced { ledger, .. } => *ledger == recoverer.ledger,
+        Message::Absent { ledger, entry, .. }
+        | Message::Found { ledger, entry, .. }
+        | Message::RecoveryAdded { ledger, entry, .. } => {
+            *ledger == recoverer.ledger && entry.0 == recoverer.settled.0
+        }
+        _ => false,
+    }
 }

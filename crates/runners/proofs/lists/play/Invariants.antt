@@ -6,7 +6,9 @@ use Rattle.runners.proofs.lists.play.Given as goal
 abbrev pub invariant-loop-step : goal.invariant-loop-step
 invariant-loop-step g l =
     let state = g.R.Runner.state in
-    (vec_len l.answers ≡ l.step-index)
-    × (length l.steps ≤ vec_capacity l.answers)
-    × (vec_items l.answers ++ told (state l.runner) (drop l.step-index l.steps) ≡ told (state l.initial.runner) l.steps)
-    × (after (state l.runner) (drop l.step-index l.steps) ≡ after (state l.initial.runner) l.steps)
+    record {
+      as_many : vec_len l.answers ≡ l.step-index;
+      reserved : length l.steps ≤ vec_capacity l.answers;
+      answered : vec_items l.answers ++ told (state l.runner) (drop l.step-index l.steps) ≡ told (state l.initial.runner) l.steps;
+      left : after (state l.runner) (drop l.step-index l.steps) ≡ after (state l.initial.runner) l.steps;
+    }
