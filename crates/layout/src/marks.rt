@@ -1,6 +1,6 @@
 // Marks on positions, by the bookie that stands there.
 ghost use Rattle.std.specs.Prelude.{◌≡◌, true, slice_set};
-ghost use Rattle.layout.specs.WriteSets.{write_set, ensemble, mark};
+ghost use Rattle.layout.specs.WriteSets.{write_set, ensemble, mark, marked};
 ghost use Rattle.layout.specs.Layouts.{fragment_of, last_fragment};
 
 use crate::fragments::{Fragment, Layout};
@@ -45,4 +45,11 @@ fn set_mark(marks: &mut [bool; 5], position: u32)
     if at < MAX_ENSEMBLE {
         marks[at] = true;
     }
+}
+
+// Whether a position is marked; one that there cannot be is not.
+pub fn is_marked(marks: &[bool; 5], position: u32) -> bool
+    ensures { result ≡ marked marks.now position }
+{
+    marks.get(position as usize).copied().unwrap_or(false)
 }

@@ -1,15 +1,18 @@
-// The writer of a ledger. Its pending adds are in places that are lent to its calls.
-ghost use Rattle.std.specs.Prelude.{◌+◌, ◌≤◌};
+// The writer of a ledger. Its pending adds are in places that are lent to it.
+ghost use Rattle.std.specs.Prelude.{◌≡◌, ◌+◌, ◌≤◌, length};
+ghost use Rattle.places.specs.LentLists.{records, room};
 
 use layout::fragments::Layout;
 use ledgers::ids::{Lac, Version};
+use messages::entries::PendingAdd;
+use places::lent_lists::LentList;
 use protocol::writers::WriterState;
 
 // The most adds that a writer has pending.
 pub const MAX_PENDING: usize = 16;
 
-#[derive(Clone, Copy)]
-pub struct Writer {
+#[derive(Drop)]
+pub struct Writer<'a> {
     state: WriterState,
     // The record's, until a recovery takes the ledger over.
     layout: Layout,
@@ -17,11 +20,11 @@ pub struct Writer {
     version: Version,
     // Each entry that counts here is confirmed: an ack quorum of its write set holds it.
     lac: Lac,
-    // How many entries from there on are pending. They stand in the first places, in order.
-    pending: usize,
-    ghost few: { pending ≤ 16 },
+    // The entries from there on that are pending, in order.
+    pending: LentList<'a, PendingAdd>,
+    ghost sixteen: { room pending ≡ 16 },
     // There are so many entries at most.
-    ghost small: { lac.0 + pending ≤ 10000 },
+    ghost small: { lac.0 + length (records pending) ≤ 10000 },
 }
 
 pub mod changing;

@@ -3,6 +3,7 @@ ghost use Rattle.std.specs.Prelude.{◌≡◌, ◌+◌, ◌%◌, ◌<◌, nat_le
 ghost use Rattle.layout.specs.WriteSets.{write_set, tally, marked, blocking, covers, member};
 
 use super::Sizes;
+use crate::marks::is_marked;
 use ledgers::ids::{EntryId, Position};
 
 impl Sizes {
@@ -57,11 +58,4 @@ impl Sizes {
     {
         self.marked(e, marks) >= self.blocking()
     }
-}
-
-// Whether a position is marked; one that there cannot be is not.
-fn is_marked(marks: &[bool; 5], position: u32) -> bool
-    ensures { result ≡ marked marks.now position }
-{
-    marks.get(position as usize).copied().unwrap_or(false)
 }

@@ -1,51 +1,64 @@
 // How a writer comes to be, and what it tells of itself.
 ghost use Rattle.std.specs.Prelude.{◌≡◌};
 ghost use Rattle.layout.specs.Layouts.{no_layout};
+ghost use Rattle.messages.specs.Faults.{when_ok};
 ghost use Rattle.stores.specs.Meaning.{store};
-ghost use Rattle.protocol.specs.Stores.{create_after};
-ghost use Rattle.protocol.specs.Writers.{no_writer};
-ghost use Rattle.writers.specs.Beginnings.{Created, Fresh};
+ghost use Rattle.protocol.specs.Stores.{create_answer, create_after};
+ghost use Rattle.protocol.specs.Writers.{no_writer, new_writer};
+ghost use Rattle.writers.specs.Beginnings.{created_answer};
+ghost use Rattle.writers.specs.Meaning.{meant};
 
-use super::Writer;
+use super::{MAX_PENDING, Writer};
 use layout::fragments::Layout;
 use layout::sizes::Sizes;
 use ledgers::bookie_lists::BookieList;
 use ledgers::ids::{Lac, LedgerId, Version};
+use messages::entries::PendingAdd;
+use places::lent_lists::LentList;
 use protocol::faults::ClientFault;
 use protocol::writers::WriterState;
 use stores::calls::Store;
 
-impl Writer {
-    // Creates a ledger, open and with this layout, and its writer.
-    pub fn create<S: Store>(
-        ledger: LedgerId,
-        layout: &Layout,
-        ledgers: &mut S,
-    ) -> Result<Writer, ClientFault>
-        ensures answer { Created (store S.Store.ledgers S.Store.changes ledgers.old) ledger layout.now result }
-        ensures stored { store S.Store.ledgers S.Store.changes ledgers.new ≡ create_after (store S.Store.ledgers S.Store.changes ledgers.old) ledger layout.now }
-    {
-        let version = ledgers.create(ledger, layout)?;
-        Ok(Writer {
-            state: WriterState::Writing,
-            layout: *layout,
-            version,
-            lac: Lac(0),
-            pending: 0,
-        })
-    }
-
-    // The writer of a ledger that is not there.
-    pub fn absent() -> Writer
-        ensures { Fresh result no_writer }
+impl<'a> Writer<'a> {
+    // The writer of a ledger that is not there, with the places for what it will have pending.
+    pub fn absent(places: &'a mut [PendingAdd; MAX_PENDING]) -> Writer<'a>
+        ensures { meant result ≡ no_writer }
     {
         Writer {
             state: WriterState::Absent,
             layout: no_layout(),
             version: Version(0),
             lac: Lac(0),
-            pending: 0,
+            pending: LentList::new(&mut places[..]),
         }
+    }
+
+    // Creates a ledger, open and with this layout, of which it is the writer from then on.
+    pub fn create<S: Store>(
+        &mut self,
+        ledger: LedgerId,
+        layout: &Layout,
+        ledgers: &mut S,
+    ) -> Result<Version, ClientFault>
+        ensures answer { result ≡ created_answer (store S.Store.ledgers S.Store.changes ledgers.old) ledger }
+        ensures after { meant self.new ≡ when_ok (create_answer (store S.Store.ledgers S.Store.changes ledgers.old) ledger) (new_writer layout.now) (meant self.old) }
+        ensures stored { store S.Store.ledgers S.Store.changes ledgers.new ≡ create_after (store S.Store.ledgers S.Store.changes ledgers.old) ledger layout.now }
+    {
+        let version = ledgers.create(ledger, layout)?;
+        self.begin(layout, version);
+        Ok(version)
+    }
+
+    // Writes a new ledger with this layout.
+    fn begin(&mut self, layout: &Layout, version: Version)
+        requires { version.0 ≡ 1 }
+        ensures { meant self.new ≡ new_writer layout.now }
+    {
+        self.pending.clear();
+        self.state = WriterState::Writing;
+        self.layout = *layout;
+        self.version = version;
+        self.lac = Lac(0);
     }
 
     // How it stands with its ledger.

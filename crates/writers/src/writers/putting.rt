@@ -2,40 +2,31 @@
 ghost use Rattle.std.specs.Prelude.{◌≡◌};
 ghost use Rattle.stores.specs.Meaning.{store};
 ghost use Rattle.protocol.specs.Writers.{close_answer};
-ghost use Rattle.writers.specs.Meaning.{meant, Row};
+ghost use Rattle.writers.specs.Meaning.{meant};
 ghost use Rattle.writers.specs.Puts.{Put, close_after, close_stored};
 
 use super::Writer;
 use layout::fragments::Layout;
 use ledgers::ids::{Lac, LedgerId, Version};
-use messages::entries::PendingAdd;
 use messages::faults::StoreFault;
 use messages::metadata::LedgerState;
 use protocol::faults::ClientFault;
 use protocol::writers::WriterState;
 use stores::calls::Store;
 
-impl Writer {
+impl Writer<'_> {
     // Closes the ledger at the LAC, which it answers, or none where the ledger was lost to a recovery.
     pub fn close<S: Store>(
         &mut self,
         ledger: LedgerId,
         ledgers: &mut S,
-        places: &mut [PendingAdd],
     ) -> Result<Option<Lac>, ClientFault>
-        requires { Row self.old places.old }
-        ensures row { Row self.new places.new }
-        ensures answer { result ≡ close_answer (meant self.old places.old) (store S.Store.ledgers S.Store.changes ledgers.old) ledger }
-        ensures after { meant self.new places.new ≡ close_after (meant self.old places.old) (store S.Store.ledgers S.Store.changes ledgers.old) ledger }
-        ensures stored { store S.Store.ledgers S.Store.changes ledgers.new ≡ close_stored (meant self.old places.old) (store S.Store.ledgers S.Store.changes ledgers.old) ledger }
+        ensures answer { result ≡ close_answer (meant self.old) (store S.Store.ledgers S.Store.changes ledgers.old) ledger }
+        ensures after { meant self.new ≡ close_after (meant self.old) (store S.Store.ledgers S.Store.changes ledgers.old) ledger }
+        ensures stored { store S.Store.ledgers S.Store.changes ledgers.new ≡ close_stored (meant self.old) (store S.Store.ledgers S.Store.changes ledgers.old) ledger }
     {
-        if self.is_fenced() {
-            return Err(ClientFault::Fenced);
-        }
-        if self.is_closed() {
-            return Err(ClientFault::Closed);
-        }
-        if self.pending > 0 {
+        self.ask_writing()?;
+        if self.pending.len() > 0 {
             return Err(ClientFault::Pending);
         }
         let layout = self.layout;
@@ -46,7 +37,7 @@ impl Writer {
                 Ok(Some(self.lac))
             }
             None => {
-                self.lose(places);
+                self.lose();
                 Ok(None)
             }
         }

@@ -1,31 +1,36 @@
-use Rattle.std.proofs.Common.{◌≡◌, ◌+◌, ◌-◌, ◌<◌, ◌≤◌, ◌⊎◌, length, take, sym, ◌∙◌, inl, inr, arith, length-set}
-use Rattle.std.proofs.lemmas.List.{drop-set-lt, length-take-le}
-use Rattle.writers.proofs.Marks.{marked_none, marked_in}
+use Rattle.std.proofs.Common.{◌≡◌, ◌+◌, ◌-◌, ◌<◌, ◌≤◌, length, get_or, set, sym, ap, ◌∙◌, inl, inr, arith, rules}
+use Rattle.places.specs.LentLists.{records}
+use Rattle.protocol.specs.Writers.{with_pending, marked_add}
+use Rattle.writers.specs.Meaning.{meant}
+use Rattle.writers.proofs.Marks.{marked_none, marked_at}
 use Rattle.writers.proofs.writers.Writer.mark.Goals as goal
-use Rattle.writers.proofs.writers.Writer.mark.Goals.{then-e-self-via-then-e-self, then-e-self-via-else-e-self+then-e-self-2}
 
-pub returns-then-e-self : goal.returns-then-e-self
-returns-then-e-self c =
+pub returns-in_default : goal.returns-in_default
+returns-in_default c =
     let w = c.args.self.now in
-    let ps = take w.pending c.args.places.now in
-    let long : length ps ≡ w.pending = length-take-le w.pending c.args.places.now (omega (arith, c.requires.0)) in
-    let out : (c.args.e.0 < w.lac.0) ⊎ (w.lac.0 + length ps ≤ c.args.e.0) =
-    elim c.then-e-self.branch [
-      | then-e-self-via-then-e-self v ↦ inl v.if-e-self.true
-      | then-e-self-via-else-e-self+then-e-self-2 v ↦ inr (omega (arith, v.if-e-self.false, v.if-e-self-2.true))
-    ] in
-    record { row = c.requires; after = sym (marked_none w.layout c.args.e.0 c.args.bookie.0 w.lac.0 ps out) }
+    let below : c.args.e.0 < w.lac.0 = search rules in
+    ap (with_pending (meant w) w.lac.0) (sym (marked_none w.layout c.args.e.0 c.args.bookie.0 w.lac.0 (records w.pending) (inl below)))
 
-pub returns : goal.returns
-returns c =
+pub returns-in-Some-copied : goal.returns-in-Some-copied
+returns-in-Some-copied c =
     let w = c.args.self.now in
     let y = w.layout in
     let e = c.args.e.0 in
     let b = c.args.bookie.0 in
-    let there : e - w.lac.0 < w.pending = omega arith in
-    record {
-      row = (length-set _ _ _ ∙ c.requires.0, drop-set-lt _ _ _ _ there ∙ c.requires.1);
-      after =
-          marked_in y e b w.lac.0 w.pending c.args.places.now c.index-places-at.result c.mark_write_set.new.marks (omega arith) there (omega (arith, c.requires.0))
-          c.mark_write_set.ensures;
-    }
+    let ps = records w.pending in
+    let at = c.in-Some.at in
+    let x = c.in-Some-copied.add in
+    let is : at ≡ e - w.lac.0 = search rules in
+    let le : w.lac.0 ≤ e = search rules in
+    let lt : at < length ps = search rules in
+    let here : x ≡ get_or ps at x = search rules in
+    ap (with_pending (meant w) w.lac.0)
+    (c.replace.ensures.records ∙ ap (λ m. set ps at (record { body = x.body; marks = m })) c.mark_write_set.ensures
+    ∙ ap (λ v. set ps at (marked_add y e b v)) here ∙ ap (λ k. set ps k (marked_add y e b (get_or ps k x))) is
+    ∙ sym (marked_at y e b w.lac.0 ps x le (omega (arith, is, lt))))
+
+pub returns-in_default-copied : goal.returns-in_default-copied
+returns-in_default-copied c =
+    let w = c.args.self.now in
+    let past : w.lac.0 + length (records w.pending) ≤ c.args.e.0 = search rules in
+    ap (with_pending (meant w) w.lac.0) (sym (marked_none w.layout c.args.e.0 c.args.bookie.0 w.lac.0 (records w.pending) (inr past)))

@@ -1,36 +1,23 @@
-use Rattle.std.proofs.Common.{◌≡◌, ◌<◌, ◌++◌, map, length, get_or, take, drop, sym, ap, ◌∙◌, arith, length-set}
-use Rattle.std.proofs.lemmas.List.{drop-set-lt, length-take-le, get_or-take, get_or_default, take_all, drop_all, append-nil}
+use Rattle.std.proofs.Common.{◌≡◌, ◌<◌, length, get_or, ap, ◌∙◌, arith, length-set}
 use Rattle.std.proofs.lemmas.List.Edits.{map_over_more}
-use Rattle.protocol.specs.Writers.{unmarked}
-use Rattle.writers.proofs.Marks.{take_of_set}
+use Rattle.places.specs.LentLists.{records}
+use Rattle.protocol.specs.Writers.{Writer, unmarked, with_pending}
+use Rattle.writers.specs.Meaning.{meant}
 use Rattle.writers.proofs.writers.Writer.unmark.Goals as goal
 
 pub loop-k-preserved : goal.loop-k-preserved
 loop-k-preserved c =
-    let n = c.args.self.now.pending in
-    let p = c.args.position.0 in
-    let ps = c.loop-k.places in
+    let w = c.args.self.now in
+    let f = unmarked c.args.position.0 in
+    let olds = records w.pending in
+    let ps = records c.loop-k.self.pending in
     let k = c.loop-k.k in
-    let olds = take n c.args.places.now in
-    let x = get_or ps k c.index-places-k.result in
-    let lt : k < n = omega arith in
-    let long : length olds ≡ n = length-take-le n c.args.places.now (omega (arith, c.requires.row.0)) in (
-      (length-set _ _ _ ∙ c.loop-k.invariant.0.0, drop-set-lt _ _ _ _ lt ∙ c.loop-k.invariant.0.1),
-      take_of_set n ps k (unmarked p x)
-          ∙ map_over_more (unmarked p) olds (take n ps) k x (omega arith) c.loop-k.invariant.1
-          (get_or_default ps k c.index-places-k.result x (omega (arith, c.loop-k.invariant.0.0)) ∙ sym (get_or-take n ps k x lt)),
+    let x = c.index-as_slice-k.result in
+    let before = c.loop-k.invariant.1 in
+    let lt : k < length olds = omega arith in
+    let here : x ≡ get_or ps k x = c.index-as_slice-k.is ∙ ap (λ xs. get_or xs k x) c.as_slice.ensures in
+    let more = map_over_more f olds ps k x lt (ap (λ (v : Writer). v.pending) before) here in (
+      ap length c.replace.ensures.records ∙ length-set ps k (f x) ∙ c.loop-k.invariant.0,
+      ap (λ (v : Writer). with_pending v v.lac (records c.replace.new.self)) before
+          ∙ ap (with_pending (meant w) w.lac.0) (c.replace.ensures.records ∙ more),
     )
-
-pub returns : goal.returns
-returns c =
-    let n = c.args.self.now.pending in
-    let p = c.args.position.0 in
-    let k = c.loop-k.k in
-    let olds = take n c.args.places.now in
-    let long : length olds ≡ n = length-take-le n c.args.places.now (omega (arith, c.requires.row.0)) in
-    record {
-      row = c.loop-k.invariant.0;
-      after =
-          c.loop-k.invariant.1 ∙ ap (λ ys. map (unmarked p) ys ++ drop k olds) (take_all k olds (omega arith))
-          ∙ ap (λ ys. map (unmarked p) olds ++ ys) (drop_all k olds (omega arith)) ∙ append-nil _;
-    }

@@ -1,11 +1,12 @@
-use Rattle.std.proofs.Common.{◌≡◌, ◌++◌, map, take, drop}
-use Rattle.protocol.specs.Writers.{unmarked}
-use Rattle.writers.specs.Meaning.{Row}
+use Rattle.std.proofs.Common.{◌≡◌, ◌++◌, map, length, take, drop}
+use Rattle.places.specs.LentLists.{records}
+use Rattle.protocol.specs.Writers.{unmarked, with_pending}
+use Rattle.writers.specs.Meaning.{meant}
 use Rattle.writers.proofs.writers.Writer.unmark.Given as goal
 
 -- the pending adds passed so far are unmarked
 abbrev pub invariant-loop-k : goal.invariant-loop-k
 invariant-loop-k l =
-    Row l.self l.places
-    × (take l.self.pending l.places
-    ≡ map (unmarked l.p) (take l.k (take l.self.pending l.initial.places)) ++ drop l.k (take l.self.pending l.initial.places))
+    let olds = records l.initial.self.pending in
+    (length (records l.self.pending) ≡ length olds)
+    × (meant l.self ≡ with_pending (meant l.initial.self) l.initial.self.lac.0 (map (unmarked l.p) (take l.k olds) ++ drop l.k olds))
