@@ -1,6 +1,6 @@
 -- The words of a line.
-use Rattle.std.specs.Prelude.{ℕ, Bool, true, false, cond, not, ◌&&◌, ◌||◌, List, [], ◌∷◌, length, take, drop, Some, None, Ok, Err, Option, Result, ◌==◌, nat_lt, slice_index}
-use Rattle.std.specs.List.{prefix_len}
+use Rattle.std.specs.Prelude.{ℕ, Bool, cond, not, ◌&&◌, List, length, take, drop, Some, None, Ok, Err, Option, Result, ◌==◌, nat_le, slice_index}
+use Rattle.std.specs.List.{list_all, prefix_len}
 use Rattle.ledgers.specs.Bodies.{made_body}
 use Rattle.ledgers.specs.declared.bodies.Body.{Body}
 use Rattle.words.specs.Letters.{letter_of}
@@ -58,8 +58,7 @@ number_in (text bs p) = Err (Form p)
 
 -- from the space to the tilde
 abbrev pub printable : List ℕ → Bool
-printable [] = true
-printable (b ∷ bs) = cond (nat_lt b 32 || nat_lt 126 b) false (printable bs)
+printable bs = list_all (λ b. nat_le 32 b && nat_le b 126) bs
 
 abbrev pub body_or_range : ℕ → Bool → Option Body → Result Body LineFault
 body_or_range p ok None = Err (Range p)

@@ -33,19 +33,17 @@ impl<'a> Word<'a> {
     pub fn new(bytes: &'a [u8], place: usize) -> Word<'a>
         ensures { meant result ≡ word_at place bytes.now }
     {
-        if place == 0 && bytes.len() == 1 {
-            return Word::Letter {
-                letter: bytes[0],
+        match (bytes, read_number(bytes)) {
+            ([letter], _) if place == 0 => Word::Letter {
+                letter: *letter,
                 place,
-            };
-        }
-        match read_number(bytes) {
-            Some(value) => Word::Number {
-                digits: bytes,
+            },
+            (digits, Some(value)) => Word::Number {
+                digits,
                 value,
                 place,
             },
-            None => Word::Text { text: bytes, place },
+            (text, None) => Word::Text { text, place },
         }
     }
 
@@ -54,12 +52,12 @@ impl<'a> Word<'a> {
         ensures { result ≡ letter_in (meant self.entry) }
     {
         match self {
-            Word::Letter { letter, place } => match Letter::from_byte(letter) {
-                Some(known) => Ok(known),
-                None => Err(LineFault::Form { word: place }),
-            },
-            Word::Number { place, .. } => Err(LineFault::Form { word: place }),
-            Word::Text { place, .. } => Err(LineFault::Form { word: place }),
+            Word::Letter { letter, place } => {
+                Letter::try_from(letter).map_err(|_| LineFault::Form { word: place })
+            }
+            Word::Number { place, .. } | Word::Text { place, .. } => {
+                Err(LineFault::Form { word: place })
+            }
         }
     }
 
@@ -69,8 +67,9 @@ impl<'a> Word<'a> {
     {
         match self {
             Word::Number { value, .. } => Ok(value),
-            Word::Letter { place, .. } => Err(LineFault::Form { word: place }),
-            Word::Text { place, .. } => Err(LineFault::Form { word: place }),
+            Word::Letter { place, .. } | Word::Text { place, .. } => {
+                Err(LineFault::Form { word: place })
+            }
         }
     }
 
@@ -83,8 +82,9 @@ impl<'a> Word<'a> {
                 Some(body) if is_printable(text) => Ok(body),
                 _ => Err(LineFault::Range { word: place }),
             },
-            Word::Letter { place, .. } => Err(LineFault::Form { word: place }),
-            Word::Number { place, .. } => Err(LineFault::Form { word: place }),
+            Word::Letter { place, .. } | Word::Number { place, .. } => {
+                Err(LineFault::Form { word: place })
+            }
         }
     }
 }
@@ -93,12 +93,7 @@ impl<'a> Word<'a> {
 fn is_printable(text: &[u8]) -> bool
     ensures { result ≡ printable text.now }
 {
-    for byte in text {
-        if *byte < b' ' || *byte > b'~' {
-            return false;
-        }
-    }
-    true
+    text.iter().all(|byte| matches!(byte, b' '..=b'~'))
 }
 
 // How many bytes stand before the first space.
@@ -106,12 +101,7 @@ fn word_length(text: &[u8]) -> usize
     ensures value { result ≡ prefix_len inner text.now }
     ensures within { result ≤ length text.now }
 {
-    for (i, byte) in text.iter().enumerate() {
-        if *byte == b' ' {
-            return i;
-        }
-    }
-    text.len()
+    text.iter().take_while(|byte| **byte != b' ').count()
 }
 
 // The first word, at the place that it has in its line, and what follows it: nothing, or a space and what that parts.
