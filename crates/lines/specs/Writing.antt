@@ -7,7 +7,7 @@ use Rattle.ledgers.specs.declared.steps.Step.{Step}
 use Rattle.ledgers.specs.declared.steps.Step.TheVariants.{Create, Append, Resend, ChangeEnsemble, Close, Recover, AskAgain, Finish, Deliver, Duplicate, Discard, Stop, Start}
 use Rattle.words.specs.Letters.{byte_of}
 use Rattle.words.specs.Words.{printable}
-use Rattle.lines.specs.Reading.{misses_range, read_line}
+use Rattle.lines.specs.Reading.{ranges, read_line}
 use Rattle.words.specs.declared.letters.Letter.{Letter}
 use Rattle.words.specs.declared.letters.Letter.TheVariants as letter
 
@@ -87,7 +87,7 @@ sayable (Start b) = true
 -- a step within the script's ranges
 pub record InScript (s : Step) : Type 0 where
   -- its ledger is 1 to 16 and its recoverer 1 to 4
-  pub ranged : misses_range s ≡ 0
+  pub ranged : ranges s ≡ Ok tt
   -- five digits write each of its numbers
   pub short : AllByRecursion (λ n. n < 100000) (numbers_in s)
   pub said : sayable s ≡ true

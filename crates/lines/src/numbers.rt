@@ -6,7 +6,7 @@ ghost use Rattle.lines.specs.Steps.{create_of, step_of};
 use ledgers::bookie_lists::BookieList;
 use ledgers::ids::{BookieId, LedgerId, MessagePlace, Position, RecovererId};
 use ledgers::steps::Step;
-use words::{Letter, LineFault, first_word};
+use words::{Letter, LineFault, Word};
 
 // A create has the most: ledger, three sizes and five bookies.
 pub const MAX_NUMBERS: usize = 9;
@@ -28,13 +28,12 @@ impl Numbers {
             values: [0; MAX_NUMBERS],
             count: 0,
         };
-        let mut left = words;
-        while left.len() > 0 {
-            let (_, tail) = left.split_at(1);
-            let (word, rest) = first_word(tail, numbers.count + 1);
-            let value = word.number()?;
-            numbers.push(value);
-            left = rest;
+        if words.is_empty() {
+            return Ok(numbers);
+        }
+        for word in words[1..].split(|byte| *byte == b' ') {
+            let word = Word::new(word, numbers.count + 1);
+            numbers.push(word.number()?);
         }
         Ok(numbers)
     }
@@ -54,31 +53,44 @@ impl Numbers {
     pub fn step(&self, letter: Letter) -> Option<Step>
         ensures { result ≡ step_of letter self.now }
     {
-        let [first, second, third, ..] = self.values;
-        let ledger = LedgerId(first);
-        let recoverer = RecovererId(first);
-        let message = MessagePlace(first);
-        let bookie = BookieId(first);
-        match (letter, self.count) {
+        match (letter, self.values.get(..self.count)?) {
             (Letter::Create, _) => self.create(),
-            (Letter::Resend, 1) => Some(Step::Resend { ledger }),
-            (Letter::ChangeEnsemble, 3) => Some(Step::ChangeEnsemble {
-                ledger,
-                position: Position(second),
-                bookie: BookieId(third),
+            (Letter::Resend, [ledger]) => Some(Step::Resend {
+                ledger: LedgerId(*ledger),
             }),
-            (Letter::Close, 1) => Some(Step::Close { ledger }),
-            (Letter::Recover, 2) => Some(Step::Recover {
-                recoverer,
-                ledger: LedgerId(second),
+            (Letter::ChangeEnsemble, [ledger, position, bookie]) => Some(Step::ChangeEnsemble {
+                ledger: LedgerId(*ledger),
+                position: Position(*position),
+                bookie: BookieId(*bookie),
             }),
-            (Letter::AskAgain, 1) => Some(Step::AskAgain { recoverer }),
-            (Letter::Finish, 1) => Some(Step::Finish { recoverer }),
-            (Letter::Deliver, 1) => Some(Step::Deliver { message }),
-            (Letter::Duplicate, 1) => Some(Step::Duplicate { message }),
-            (Letter::Discard, 1) => Some(Step::Discard { message }),
-            (Letter::Stop, 1) => Some(Step::Stop { bookie }),
-            (Letter::Start, 1) => Some(Step::Start { bookie }),
+            (Letter::Close, [ledger]) => Some(Step::Close {
+                ledger: LedgerId(*ledger),
+            }),
+            (Letter::Recover, [recoverer, ledger]) => Some(Step::Recover {
+                recoverer: RecovererId(*recoverer),
+                ledger: LedgerId(*ledger),
+            }),
+            (Letter::AskAgain, [recoverer]) => Some(Step::AskAgain {
+                recoverer: RecovererId(*recoverer),
+            }),
+            (Letter::Finish, [recoverer]) => Some(Step::Finish {
+                recoverer: RecovererId(*recoverer),
+            }),
+            (Letter::Deliver, [message]) => Some(Step::Deliver {
+                message: MessagePlace(*message),
+            }),
+            (Letter::Duplicate, [message]) => Some(Step::Duplicate {
+                message: MessagePlace(*message),
+            }),
+            (Letter::Discard, [message]) => Some(Step::Discard {
+                message: MessagePlace(*message),
+            }),
+            (Letter::Stop, [bookie]) => Some(Step::Stop {
+                bookie: BookieId(*bookie),
+            }),
+            (Letter::Start, [bookie]) => Some(Step::Start {
+                bookie: BookieId(*bookie),
+            }),
             _ => None,
         }
     }
@@ -87,19 +99,17 @@ impl Numbers {
     fn create(&self) -> Option<Step>
         ensures { result ≡ create_of self.now }
     {
-        if self.count < 5 || self.count > MAX_NUMBERS {
-            return None;
-        }
-        let [ledger, ensemble, write_quorum, ack_quorum, ..] = self.values;
-        match BookieList::new(&self.values[4..self.count]) {
-            Some(bookies) => Some(Step::Create {
-                ledger: LedgerId(ledger),
-                ensemble,
-                write_quorum,
-                ack_quorum,
-                bookies,
-            }),
-            None => None,
+        match self.values.get(..self.count)? {
+            [ledger, ensemble, write_quorum, ack_quorum, bookies @ ..] if !bookies.is_empty() => {
+                Some(Step::Create {
+                    ledger: LedgerId(*ledger),
+                    ensemble: *ensemble,
+                    write_quorum: *write_quorum,
+                    ack_quorum: *ack_quorum,
+                    bookies: BookieList::new(bookies)?,
+                })
+            }
+            _ => None,
         }
     }
 }
