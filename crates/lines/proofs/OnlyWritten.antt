@@ -1,5 +1,5 @@
 -- A line that is read as a step is the line that is written for it.
-use Rattle.std.proofs.Common.{◌≡◌, ℕ, zero, suc, ◌+◌, ◌-◌, ◌*◌, ◌<◌, ◌≤◌, min, Bool, true, false, cond, not, ◌&&◌, ◌||◌, eqb, ltb, leb, List, [], ◌∷◌, ◌++◌, length, get_or, take, drop, Some, None, Ok, Err, decimal, Option, Result, sym, refl, ap, ◌∙◌, subst, ⊎_elim, add-zero, one-add, arith}
+use Rattle.std.proofs.Common.{◌≡◌, ℕ, zero, suc, ◌+◌, ◌-◌, ◌*◌, ◌<◌, ◌≤◌, Bool, true, false, cond, not, ◌&&◌, ◌||◌, eqb, ltb, leb, List, [], ◌∷◌, ◌++◌, length, get_or, take, drop, Some, None, Ok, Err, decimal, Option, Result, sym, refl, ap, ◌∙◌, subst, ⊎_elim, add-zero, one-add, arith}
 use Rattle.std.specs.List.{prefix_len, AllByRecursion}
 use Rattle.std.specs.Str.{all_ascii_digits}
 use Rattle.std.specs.Char.{is_ascii_digit}
@@ -143,7 +143,8 @@ numbers_were k n m [] few gap e = record { ns = []; is = refl; short = tt; all =
 numbers_were zero n m (b ∷ l) few gap e = absurd (omega arith)
 numbers_were (suc k) n m (b ∷ l) few gap e =
     let words : more_words (b ∷ l) ≡ first_of l ∷ more_words (after_first l) = words_behind (b ∷ l) (omega arith) ∙ cut_first l in
-    let one = ok_then (number_in (word_at (n.count + 1) (first_of l))) _ m (ap (numbers_from n) (sym words) ∙ e) in
+    let read : numbers_from n (first_of l ∷ more_words (after_first l)) ≡ Ok m = ap (numbers_from n) (sym words) ∙ e in
+    let one = ok_then (number_in (word_at (n.count + 1) (first_of l))) _ m read in
     let first = number_was (n.count + 1) (first_of l) one.0 (omega arith) one.1 in
     let few_left : length (after_first l) ≤ k = omega (arith, length-drop (prefix_len inner l) l) in
     let rest = numbers_were k (with_number n one.0) m (after_first l) few_left (gap_after l) one.2 in
@@ -226,7 +227,7 @@ of_create (l ∷ n ∷ w ∷ k ∷ xs) s e =
       letter = refl;
       numbers = ap (λ bs. l ∷ n ∷ w ∷ k ∷ bs) (listed_of xs few);
       bare = refl;
-      said = lt-ltb 0 (length (listed (list_of xs))) (omega (arith, some, ap length (listed_of xs few)));
+      said = lt-ltb 0 (length (listed (list_of xs))) (omega (arith, ap length (listed_of xs few)));
     })
   where
     same : {t : Step} → Some t ≡ Some s → t ≡ s

@@ -1,5 +1,5 @@
 -- The line that is written for a step, and what it promises to be read as.
-use Rattle.std.specs.Prelude.{◌≡◌, ℕ, ◌<◌, Bool, true, List, [], ◌∷◌, ◌++◌, Ok, decimal, nat_lt, length}
+use Rattle.std.specs.Prelude.{◌≡◌, ℕ, ◌<◌, Bool, true, List, [], ◌∷◌, ◌++◌, Ok, decimal, length, nat_lt}
 use Rattle.std.specs.List.{AllByRecursion}
 use Rattle.ledgers.specs.Bodies.{content}
 use Rattle.ledgers.specs.BookieLists.{listed}

@@ -1,11 +1,10 @@
 // A whole line, read as the step that it asks for.
 ghost use Rattle.std.specs.Prelude.{◌≡◌};
-ghost use Rattle.ledgers.specs.Limits.{is_ledger, is_recoverer};
 ghost use Rattle.lines.specs.Writing.{LinesKeepSteps};
 ghost use Rattle.lines.specs.Reading.{ended, text_of, in_range, ranges, first_letter, read_text, append_text, read_append, read_numbers, read_line};
 
 use crate::numbers::Numbers;
-use ledgers::ids::{LedgerId, MAX_LEDGERS, MAX_RECOVERERS, RecovererId};
+use ledgers::ids::LedgerId;
 use ledgers::steps::Step;
 use words::{Letter, LineFault, Word, first_word};
 
@@ -72,7 +71,7 @@ fn append_text(ledger: LedgerId, rest: &[u8], fits: bool) -> Result<Step, LineFa
 {
     match rest {
         [_, text @ ..] if fits => {
-            in_range(is_ledger(ledger), 1)?;
+            in_range(ledger.is_in_range(), 1)?;
             let body = Word::Text { text, place: 2 }.body()?;
             Ok(Step::Append { ledger, body })
         }
@@ -94,18 +93,6 @@ fn read_numbers(letter: Letter, words: &[u8], fits: bool) -> Result<Step, LineFa
     }
 }
 
-fn is_ledger(ledger: LedgerId) -> bool
-    ensures { result ≡ is_ledger ledger.0 }
-{
-    ledger.0 >= 1 && ledger.0 <= MAX_LEDGERS
-}
-
-fn is_recoverer(recoverer: RecovererId) -> bool
-    ensures { result ≡ is_recoverer recoverer.0 }
-{
-    recoverer.0 >= 1 && recoverer.0 <= MAX_RECOVERERS
-}
-
 // Refuses the first word that is out of its range. Numbers of ledgers and recoverers have one, all others are free.
 fn check_ranges(step: &Step) -> Result<(), LineFault>
     ensures { result ≡ ranges step.now }
@@ -115,13 +102,13 @@ fn check_ranges(step: &Step) -> Result<(), LineFault>
         | Step::Append { ledger, .. }
         | Step::Resend { ledger }
         | Step::ChangeEnsemble { ledger, .. }
-        | Step::Close { ledger } => in_range(is_ledger(ledger), 1),
+        | Step::Close { ledger } => in_range(ledger.is_in_range(), 1),
         Step::Recover { recoverer, ledger } => {
-            in_range(is_recoverer(recoverer), 1)?;
-            in_range(is_ledger(ledger), 2)
+            in_range(recoverer.is_in_range(), 1)?;
+            in_range(ledger.is_in_range(), 2)
         }
         Step::AskAgain { recoverer } | Step::Finish { recoverer } => {
-            in_range(is_recoverer(recoverer), 1)
+            in_range(recoverer.is_in_range(), 1)
         }
         Step::Deliver { .. }
         | Step::Duplicate { .. }
