@@ -54,61 +54,48 @@ impl Numbers {
         ensures { result ≡ step_of letter self.now }
     {
         match (letter, self.values.get(..self.count)?) {
-            (Letter::Create, _) => self.create(),
-            (Letter::Resend, [ledger]) => Some(Step::Resend {
+            (Letter::Create, [ledger, ensemble, write_quorum, ack_quorum, bookies @ ..])
+                if !bookies.is_empty() => Some(Step::Create {
                 ledger: LedgerId(*ledger),
+                ensemble: *ensemble,
+                write_quorum: *write_quorum,
+                ack_quorum: *ack_quorum,
+                bookies: BookieList::new(bookies)?,
             }),
             (Letter::ChangeEnsemble, [ledger, position, bookie]) => Some(Step::ChangeEnsemble {
                 ledger: LedgerId(*ledger),
                 position: Position(*position),
                 bookie: BookieId(*bookie),
             }),
-            (Letter::Close, [ledger]) => Some(Step::Close {
-                ledger: LedgerId(*ledger),
-            }),
             (Letter::Recover, [recoverer, ledger]) => Some(Step::Recover {
                 recoverer: RecovererId(*recoverer),
                 ledger: LedgerId(*ledger),
             }),
-            (Letter::AskAgain, [recoverer]) => Some(Step::AskAgain {
-                recoverer: RecovererId(*recoverer),
-            }),
-            (Letter::Finish, [recoverer]) => Some(Step::Finish {
-                recoverer: RecovererId(*recoverer),
-            }),
-            (Letter::Deliver, [message]) => Some(Step::Deliver {
-                message: MessagePlace(*message),
-            }),
-            (Letter::Duplicate, [message]) => Some(Step::Duplicate {
-                message: MessagePlace(*message),
-            }),
-            (Letter::Discard, [message]) => Some(Step::Discard {
-                message: MessagePlace(*message),
-            }),
-            (Letter::Stop, [bookie]) => Some(Step::Stop {
-                bookie: BookieId(*bookie),
-            }),
-            (Letter::Start, [bookie]) => Some(Step::Start {
-                bookie: BookieId(*bookie),
-            }),
+            (_, [_]) => self.step_of_one(letter),
             _ => None,
         }
     }
 
-    // A create takes four numbers and one to five bookies.
-    fn create(&self) -> Option<Step>
-        ensures { result ≡ create_of self.now }
+    // The same, where there is one number.
+    fn step_of_one(&self, letter: Letter) -> Option<Step>
+        requires { self.now.count ≡ 1 }
+        ensures { result ≡ step_of letter self.now }
     {
-        match self.values.get(..self.count)? {
-            [ledger, ensemble, write_quorum, ack_quorum, bookies @ ..] if !bookies.is_empty() => {
-                Some(Step::Create {
-                    ledger: LedgerId(*ledger),
-                    ensemble: *ensemble,
-                    write_quorum: *write_quorum,
-                    ack_quorum: *ack_quorum,
-                    bookies: BookieList::new(bookies)?,
-                })
-            }
+        let [number, ..] = self.values;
+        let ledger = LedgerId(number);
+        let recoverer = RecovererId(number);
+        let message = MessagePlace(number);
+        let bookie = BookieId(number);
+        match letter {
+            Letter::Resend => Some(Step::Resend { ledger }),
+            Letter::Close => Some(Step::Close { ledger }),
+            Letter::AskAgain => Some(Step::AskAgain { recoverer }),
+            Letter::Finish => Some(Step::Finish { recoverer }),
+            Letter::Deliver => Some(Step::Deliver { message }),
+            Letter::Duplicate => Some(Step::Duplicate { message }),
+            Letter::Discard => Some(Step::Discard { message }),
+            Letter::Stop => Some(Step::Stop { bookie }),
+            Letter::Start => Some(Step::Start { bookie }),
             _ => None,
         }
     }
