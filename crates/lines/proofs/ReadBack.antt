@@ -153,7 +153,7 @@ create_listed l e w k (a ∷ b ∷ c ∷ d ∷ f ∷ g ∷ xs) some few = absurd
 
 create_back : (l : LedgerId) (e w k : ℕ) (bs : BookieList) → InScript (Create l e w k bs) → read_line (written (Create l e w k bs)) ≡ Ok (Create l e w k bs)
 create_back l e w k bs h =
-    let few = length_listed bs in
+    let few = listed_few bs in
     let some = ltb-true 0 (length (listed bs)) h.said in
     numbers_back (Create l e w k bs) h refl refl (omega arith)
     (create_listed l.0 e w k (listed bs) (omega arith) (omega arith) ∙ ap (created l.0 e w k) (made_of_listed bs))
@@ -166,7 +166,7 @@ append_back l b h =
     let tail = (digits ++ []) ++ text_part in
     let is : tail ≡ digits ++ text_part = ap (λ d. d ++ text_part) (append-nil digits) in
     let inners = inner_decimal l.0 h.short.0 in
-    let short = length_content b in
+    let short = content_short b in
     let entry = λ (c : Body). Ok (Append (ledger_id l.0) c) in
     by_its_letter letter.Append (32 ∷ tail) refl
     (omega (arith, few_digits l.0 h.short.0, length-append digits text_part, ap length is))
