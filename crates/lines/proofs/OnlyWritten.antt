@@ -17,7 +17,7 @@ use Rattle.ledgers.specs.declared.bodies.Body.{Body}
 use Rattle.ledgers.specs.declared.steps.Step.{Step}
 use Rattle.ledgers.specs.declared.steps.Step.TheVariants.{Create, Append, Resend, ChangeEnsemble, Close, Recover, AskAgain, Finish, Deliver, Duplicate, Discard, Stop, Start}
 use Rattle.words.specs.Letters.{byte_of, written_as, letter_of}
-use Rattle.words.specs.Numerals.{no_digit, onward, numeral}
+use Rattle.words.specs.Numerals.{onward, numeral}
 use Rattle.words.specs.Words.{inner, number_or_text, known_or_form, word_at, first_of, after_first, letter_in, number_in, body_in, body_or_range, printable, text}
 use Rattle.words.specs.declared.letters.Letter.{Letter}
 use Rattle.words.specs.declared.letters.Letter.TheVariants as letter
@@ -89,10 +89,9 @@ onward_was : (n : ℕ) (ds : List ℕ) (v : ℕ) → onward n ds ≡ Some v → 
 onward_was n [] v e = (refl, cc)
 onward_was n (b ∷ bs) v e =
     let none : None ≡ Some v → ⊥ = λ f. cc in
-    let way = not_then (no_digit b) None (onward (n * 10 + (b - 48)) bs) (Some v) e none in
-    let digit : is_ascii_digit b ≡ true = grind (arith, nat_tests, way.0) in
+    let way = not_else (is_ascii_digit b) (onward (n * 10 + (b - 48)) bs) None (Some v) e none in
     let rest = onward_was (n * 10 + (b - 48)) bs v way.1 in
-    (and_from _ _ digit rest.0, rest.1)
+    (and_from _ _ way.0 rest.0, rest.1)
 
 numeral_was : (w : List ℕ) (n : ℕ) → numeral w ≡ Some n → (w ≡ decimal n) × Short n
 numeral_was w n e =

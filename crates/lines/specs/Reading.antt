@@ -4,7 +4,7 @@ use Rattle.std.specs.Result.{result_ok}
 use Rattle.ledgers.specs.Limits.{is_ledger, is_recoverer}
 use Rattle.ledgers.specs.Ids.{ledger_id}
 use Rattle.ledgers.specs.declared.steps.Step.{Step}
-use Rattle.ledgers.specs.declared.steps.Step.TheVariants.{Create, Append, Resend, ChangeEnsemble, Close, Recover, AskAgain, Finish, Deliver, Duplicate, Discard, Stop, Start}
+use Rattle.ledgers.specs.declared.steps.Step.TheVariants.{Create, Append, Resend, ChangeEnsemble, Close, Recover, AskAgain, Finish}
 use Rattle.words.specs.Words.{text, word_at, first_of, after_first, letter_in, number_in, body_in}
 use Rattle.lines.specs.Numbers.{and_then, no_numbers, numbers_from, more_words}
 use Rattle.lines.specs.Steps.{step_of}
@@ -44,11 +44,7 @@ ranges (Close l) = in_range (is_ledger l.0) 1
 ranges (Recover r l) = and_then (in_range (is_recoverer r.0) 1) (λ _. in_range (is_ledger l.0) 2)
 ranges (AskAgain r) = in_range (is_recoverer r.0) 1
 ranges (Finish r) = in_range (is_recoverer r.0) 1
-ranges (Deliver m) = Ok tt
-ranges (Duplicate m) = Ok tt
-ranges (Discard m) = Ok tt
-ranges (Stop b) = Ok tt
-ranges (Start b) = Ok tt
+ranges s = Ok tt
 
 -- the step, unless a word of it is out of range
 abbrev pub within_range : Step → Result Step LineFault
@@ -75,19 +71,8 @@ read_append fits ws =
     (and_then (number_in (word_at 1 (first_of (drop 1 ws)))) (λ n. append_text fits n (after_first (drop 1 ws))))
 
 abbrev pub takes_text : Letter → Bool
-takes_text letter.Create = false
 takes_text letter.Append = true
-takes_text letter.Resend = false
-takes_text letter.ChangeEnsemble = false
-takes_text letter.Close = false
-takes_text letter.Recover = false
-takes_text letter.AskAgain = false
-takes_text letter.Finish = false
-takes_text letter.Deliver = false
-takes_text letter.Duplicate = false
-takes_text letter.Discard = false
-takes_text letter.Stop = false
-takes_text letter.Start = false
+takes_text x = false
 
 abbrev pub by_letter : Letter → Bool → List ℕ → Result Step LineFault
 by_letter x fits ws = cond (takes_text x) (read_append fits ws) (read_numbers x fits ws)

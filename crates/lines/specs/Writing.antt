@@ -45,19 +45,8 @@ numbers_in (Start b) = b.0 ∷ []
 
 -- the text behind them, with its space
 abbrev pub text_in : Step → List ℕ
-text_in (Create l e w k bs) = []
 text_in (Append l b) = 32 ∷ content b
-text_in (Resend l) = []
-text_in (ChangeEnsemble l p b) = []
-text_in (Close l) = []
-text_in (Recover r l) = []
-text_in (AskAgain r) = []
-text_in (Finish r) = []
-text_in (Deliver m) = []
-text_in (Duplicate m) = []
-text_in (Discard m) = []
-text_in (Stop b) = []
-text_in (Start b) = []
+text_in s = []
 
 -- each number in decimal digits, with a space before it
 abbrev pub spaced : List ℕ → List ℕ
@@ -72,17 +61,7 @@ written s = (byte_of (letter_for s) ∷ spaced (numbers_in s) ++ text_in s) ++ 1
 abbrev pub sayable : Step → Bool
 sayable (Create l e w k bs) = nat_lt 0 (length (listed bs))
 sayable (Append l b) = printable (content b)
-sayable (Resend l) = true
-sayable (ChangeEnsemble l p b) = true
-sayable (Close l) = true
-sayable (Recover r l) = true
-sayable (AskAgain r) = true
-sayable (Finish r) = true
-sayable (Deliver m) = true
-sayable (Duplicate m) = true
-sayable (Discard m) = true
-sayable (Stop b) = true
-sayable (Start b) = true
+sayable s = true
 
 -- a step within the script's ranges
 pub record InScript (s : Step) : Type 0 where
