@@ -9,23 +9,19 @@ use crate::numerals::read_number;
 use ledgers::bodies::Body;
 
 #[derive(Clone, Copy)]
-pub enum Word<'a> {
+pub struct Word<'a> {
+    pub kind: WordKind<'a>,
+    pub place: usize,
+}
+
+#[derive(Clone, Copy)]
+pub enum WordKind<'a> {
     // One byte, in front of the line.
-    Letter {
-        letter: u8,
-        place: usize,
-    },
+    Letter(u8),
     // A number, with the digits that write it.
-    Number {
-        digits: &'a [u8],
-        value: u32,
-        place: usize,
-    },
+    Number { digits: &'a [u8], value: u32 },
     // Any other bytes.
-    Text {
-        text: &'a [u8],
-        place: usize,
-    },
+    Text(&'a [u8]),
 }
 
 impl<'a> Word<'a> {
@@ -33,31 +29,22 @@ impl<'a> Word<'a> {
     pub fn new(bytes: &'a [u8], place: usize) -> Word<'a>
         ensures { meant result ≡ word_at place bytes.now }
     {
-        match (bytes, read_number(bytes)) {
-            ([letter], _) if place == 0 => Word::Letter {
-                letter: *letter,
-                place,
-            },
-            (digits, Some(value)) => Word::Number {
-                digits,
-                value,
-                place,
-            },
-            (text, None) => Word::Text { text, place },
-        }
+        let kind = match (bytes, read_number(bytes)) {
+            ([letter], _) if place == 0 => WordKind::Letter(*letter),
+            (digits, Some(value)) => WordKind::Number { digits, value },
+            (text, None) => WordKind::Text(text),
+        };
+        Word { kind, place }
     }
 
     // The letter that it is. Any other word has not the form of one.
     pub fn letter(self) -> Result<Letter, LineFault>
         ensures { result ≡ letter_in (meant self.entry) }
     {
-        match self {
-            Word::Letter { letter, place } => {
-                Letter::try_from(letter).map_err(|_| LineFault::Form { word: place })
-            }
-            Word::Number { place, .. } | Word::Text { place, .. } => {
-                Err(LineFault::Form { word: place })
-            }
+        let fault = LineFault::Form { word: self.place };
+        match self.kind {
+            WordKind::Letter(letter) => Letter::try_from(letter).map_err(|_| fault),
+            WordKind::Number { .. } | WordKind::Text(_) => Err(fault),
         }
     }
 
@@ -65,11 +52,9 @@ impl<'a> Word<'a> {
     pub fn number(self) -> Result<u32, LineFault>
         ensures { result ≡ number_in (meant self.entry) }
     {
-        match self {
-            Word::Number { value, .. } => Ok(value),
-            Word::Letter { place, .. } | Word::Text { place, .. } => {
-                Err(LineFault::Form { word: place })
-            }
+        match self.kind {
+            WordKind::Number { value, .. } => Ok(value),
+            WordKind::Letter(_) | WordKind::Text(_) => Err(LineFault::Form { word: self.place }),
         }
     }
 
@@ -77,14 +62,13 @@ impl<'a> Word<'a> {
     pub fn body(self) -> Result<Body, LineFault>
         ensures { result ≡ body_in (meant self.entry) }
     {
-        match self {
-            Word::Text { text, place } => match Body::new(text) {
+        let word = self.place;
+        match self.kind {
+            WordKind::Text(text) => match Body::new(text) {
                 Some(body) if is_printable(text) => Ok(body),
-                _ => Err(LineFault::Range { word: place }),
+                _ => Err(LineFault::Range { word }),
             },
-            Word::Letter { place, .. } | Word::Number { place, .. } => {
-                Err(LineFault::Form { word: place })
-            }
+            WordKind::Letter(_) | WordKind::Number { .. } => Err(LineFault::Form { word }),
         }
     }
 }
