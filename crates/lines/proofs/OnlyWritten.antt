@@ -128,6 +128,12 @@ gap_after (b ∷ bs) = at (inner b) refl (gap_after bs)
 gap_space : (b : ℕ) (bs : List ℕ) → prefix_len inner (b ∷ bs) ≡ 0 → b ≡ 32
 gap_space b bs gap = grind (arith, nat_tests)
 
+-- a number is written in front, with the space before it
+number_first : (b : ℕ) (l : List ℕ) (x : ℕ) → prefix_len inner (b ∷ l) ≡ 0 → first_of l ≡ decimal x → b ∷ l ≡ 32 ∷ decimal x ++ after_first l
+number_first b l x gap word =
+    ap (λ c. c ∷ l) (gap_space b l gap) ∙ ap (λ t. 32 ∷ t) (sym (take-append-drop (prefix_len inner l) l))
+    ∙ ap (λ w. 32 ∷ w ++ after_first l) word
+
 -- The numbers behind a letter: ws is what is written for them.
 record Numbered (n : Numbers) (ws : List ℕ) (m : Numbers) : Type 0 where
   ns : List ℕ
@@ -149,9 +155,7 @@ numbers_were (suc k) n m (b ∷ l) few gap e =
     let rest = numbers_were k (with_number n one.0) m (after_first l) few_left (gap_after l) one.2 in
     record {
       ns = one.0 ∷ rest.ns;
-      is =
-          ap (λ c. c ∷ l) (gap_space b l gap) ∙ ap (λ t. 32 ∷ t) (sym (take-append-drop (prefix_len inner l) l))
-          ∙ ap (λ w. 32 ∷ w ++ after_first l) first.0 ∙ ap (λ t. 32 ∷ decimal one.0 ++ t) rest.is;
+      is = number_first b l one.0 gap first.0 ∙ ap (λ t. 32 ∷ decimal one.0 ++ t) rest.is;
       short = (first.1, rest.short);
       all = rest.all;
     }
@@ -325,9 +329,7 @@ read_append_was fits (b ∷ l) s gap e =
     let some = ne_eqb (length (b ∷ l)) 0 (λ z. omega arith) in
     let read = ok_then (number_in (word_at 1 (first_of l))) _ s (sym (cond-false (eqb (length (b ∷ l)) 0) _ _ some) ∙ e) in
     let number = number_was 1 (first_of l) read.0 (omega arith) read.1 in
-    let whole : 32 ∷ decimal read.0 ++ after_first l ≡ b ∷ l =
-    ap (λ w. 32 ∷ w ++ after_first l) (sym number.0) ∙ ap (λ t. 32 ∷ t) (take-append-drop (prefix_len inner l) l)
-    ∙ ap (λ c. c ∷ l) (sym (gap_space b l gap)) in
+    let whole = sym (number_first b l read.0 gap number.0) in
     subst (λ ws. ReadAs letter.Append fits ws s) whole (append_text_was fits read.0 (after_first l) s (gap_after l) number.1 read.2)
 
 -- A whole line.
