@@ -1,6 +1,6 @@
 -- A line that is read as a step is the line that is written for it.
 use Rattle.std.proofs.Common.{◌≡◌, ℕ, zero, suc, ◌+◌, ◌-◌, ◌*◌, ◌<◌, ◌≤◌, Bool, true, false, cond, not, ◌&&◌, ◌||◌, eqb, ltb, leb, List, [], ◌∷◌, ◌++◌, length, get_or, take, drop, Some, None, Ok, Err, decimal, Option, Result, sym, refl, ap, ◌∙◌, subst, ⊎_elim, add-zero, one-add, arith}
-use Rattle.std.specs.List.{prefix_len, AllByRecursion}
+use Rattle.std.specs.List.{fold, prefix_len, AllByRecursion}
 use Rattle.std.specs.Str.{all_ascii_digits}
 use Rattle.std.specs.Char.{is_ascii_digit}
 use Rattle.std.proofs.lemmas.Fmt.{decimal-digits_value}
@@ -28,7 +28,7 @@ use Rattle.lines.specs.Reading.{ended, text_of, is_line, in_range, ranges, withi
 use Rattle.lines.specs.Writing.{letter_for, numbers_in, text_in, spaced, written, sayable, InScript}
 use Rattle.lines.specs.declared.numbers.Numbers.{Numbers}
 use Rattle.lines.proofs.Cuts.{cut_first, words_behind}
-use Rattle.lines.proofs.ReadBack.{all_with, created, create_listed}
+use Rattle.lines.proofs.ReadBack.{created, create_listed}
 use Rattle.lines.proofs.Decimals.{Short, value_on, own}
 
 -- A cond that came out as one of its ways tells its test.
@@ -139,7 +139,7 @@ record Numbered (n : Numbers) (ws : List ℕ) (m : Numbers) : Type 0 where
   ns : List ℕ
   is : ws ≡ spaced ns
   short : AllByRecursion Short ns
-  all : m ≡ all_with n ns
+  all : m ≡ fold with_number n ns
 
 -- k bounds the length of what is left
 numbers_were : (k : ℕ) (n m : Numbers) (ws : List ℕ) → length ws ≤ k → prefix_len inner ws ≡ 0 → numbers_from n (more_words ws) ≡ Ok m
@@ -168,7 +168,7 @@ record MadeOf (x : Letter) (ns : List ℕ) (s : Step) : Type 0 where
   bare : text_in s ≡ []
   said : sayable s ≡ true
 
-count_all : (n : Numbers) (xs : List ℕ) → (all_with n xs).count ≡ n.count + length xs
+count_all : (n : Numbers) (xs : List ℕ) → (fold with_number n xs).count ≡ n.count + length xs
 count_all n [] = sym (add-zero n.count)
 count_all n (x ∷ xs) = omega (arith, count_all (with_number n x) xs)
 
@@ -176,28 +176,28 @@ no_step : (s : Step) → None ≡ Some s → ⊥
 no_step s e = cc
 
 -- a step that takes k numbers was made of k
-taken_count : (k : ℕ) (ns : List ℕ) (f s : Step) → taking k (all_with no_numbers ns) f ≡ Some s → length ns ≡ k
+taken_count : (k : ℕ) (ns : List ℕ) (f s : Step) → taking k (fold with_number no_numbers ns) f ≡ Some s → length ns ≡ k
 taken_count k ns f s e =
-    let way = not_else (eqb (all_with no_numbers ns).count k) (Some f) None (Some s) e (no_step s) in
-    omega (arith, count_all no_numbers ns, eqb-true (all_with no_numbers ns).count k way.0)
+    let way = not_else (eqb (fold with_number no_numbers ns).count k) (Some f) None (Some s) e (no_step s) in
+    omega (arith, count_all no_numbers ns, eqb-true (fold with_number no_numbers ns).count k way.0)
 
 module _ (x : Letter) (s : Step) where
   of_one : (f : ℕ → Step) → ((a : ℕ) → MadeOf x (a ∷ []) (f a)) → (ns : List ℕ)
-      → taking 1 (all_with no_numbers ns) (f (at_place (all_with no_numbers ns) 0)) ≡ Some s → MadeOf x ns s
+      → taking 1 (fold with_number no_numbers ns) (f (at_place (fold with_number no_numbers ns) 0)) ≡ Some s → MadeOf x ns s
   of_one f each [] e = absurd (no_step s e)
   of_one f each (a ∷ []) e = let is : f a ≡ s = cc in subst (MadeOf x (a ∷ [])) is (each a)
   of_one f each (a ∷ b ∷ ns) e = absurd (omega (arith, taken_count 1 (a ∷ b ∷ ns) _ s e))
 
   of_two : (f : ℕ → ℕ → Step) → ((a b : ℕ) → MadeOf x (a ∷ b ∷ []) (f a b)) → (ns : List ℕ)
-      → taking 2 (all_with no_numbers ns) (f (at_place (all_with no_numbers ns) 0) (at_place (all_with no_numbers ns) 1)) ≡ Some s → MadeOf x ns s
+      → taking 2 (fold with_number no_numbers ns) (f (at_place (fold with_number no_numbers ns) 0) (at_place (fold with_number no_numbers ns) 1)) ≡ Some s → MadeOf x ns s
   of_two f each [] e = absurd (no_step s e)
   of_two f each (a ∷ []) e = absurd (no_step s e)
   of_two f each (a ∷ b ∷ []) e = let is : f a b ≡ s = cc in subst (MadeOf x (a ∷ b ∷ [])) is (each a b)
   of_two f each (a ∷ b ∷ c ∷ ns) e = absurd (omega (arith, taken_count 2 (a ∷ b ∷ c ∷ ns) _ s e))
 
   of_three : (f : ℕ → ℕ → ℕ → Step) → ((a b c : ℕ) → MadeOf x (a ∷ b ∷ c ∷ []) (f a b c)) → (ns : List ℕ)
-      → taking 3 (all_with no_numbers ns)
-      (f (at_place (all_with no_numbers ns) 0) (at_place (all_with no_numbers ns) 1) (at_place (all_with no_numbers ns) 2)) ≡ Some s
+      → taking 3 (fold with_number no_numbers ns)
+      (f (at_place (fold with_number no_numbers ns) 0) (at_place (fold with_number no_numbers ns) 1) (at_place (fold with_number no_numbers ns) 2)) ≡ Some s
       → MadeOf x ns s
   of_three f each [] e = absurd (no_step s e)
   of_three f each (a ∷ []) e = absurd (no_step s e)
@@ -206,15 +206,15 @@ module _ (x : Letter) (s : Step) where
   of_three f each (a ∷ b ∷ c ∷ d ∷ ns) e = absurd (omega (arith, taken_count 3 (a ∷ b ∷ c ∷ d ∷ ns) _ s e))
 
 -- a create was made of four numbers and one to five bookies
-create_count : (ns : List ℕ) (s : Step) → create_of (all_with no_numbers ns) ≡ Some s → (5 ≤ length ns) × (length ns ≤ 9)
+create_count : (ns : List ℕ) (s : Step) → create_of (fold with_number no_numbers ns) ≡ Some s → (5 ≤ length ns) × (length ns ≤ 9)
 create_count ns s e =
-    let n = all_with no_numbers ns in
+    let n = fold with_number no_numbers ns in
     let way = not_then (ltb n.count 5 || ltb 9 n.count) None _ (Some s) e (no_step s) in
     let tests = or_parts (ltb n.count 5) (ltb 9 n.count) way.0 in
     let all = count_all no_numbers ns in
     (omega (arith, ltb-false n.count 5 tests.0), omega (arith, ltb-false 9 n.count tests.1))
 
-of_create : (ns : List ℕ) (s : Step) → create_of (all_with no_numbers ns) ≡ Some s → MadeOf letter.Create ns s
+of_create : (ns : List ℕ) (s : Step) → create_of (fold with_number no_numbers ns) ≡ Some s → MadeOf letter.Create ns s
 of_create [] s e = absurd (no_step s e)
 of_create (a ∷ []) s e = absurd (no_step s e)
 of_create (a ∷ b ∷ []) s e = absurd (no_step s e)
@@ -239,7 +239,7 @@ of_create (l ∷ n ∷ w ∷ k ∷ xs) s e =
 plain : {x : Letter} {ns : List ℕ} {s : Step} → letter_for s ≡ x → numbers_in s ≡ ns → text_in s ≡ [] → sayable s ≡ true → MadeOf x ns s
 plain a b c d = record { letter = a; numbers = b; bare = c; said = d }
 
-step_was : (x : Letter) (ns : List ℕ) (s : Step) → step_of x (all_with no_numbers ns) ≡ Some s → MadeOf x ns s
+step_was : (x : Letter) (ns : List ℕ) (s : Step) → step_of x (fold with_number no_numbers ns) ≡ Some s → MadeOf x ns s
 step_was letter.Create ns s e = of_create ns s e
 step_was letter.Append ns s e = absurd (no_step s e)
 step_was letter.Resend ns s e = of_one letter.Resend s (λ a. Resend (ledger_id a)) (λ a. plain refl refl refl refl) ns e

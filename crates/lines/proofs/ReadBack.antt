@@ -1,6 +1,6 @@
 -- What is written for a step is read as that step.
 use Rattle.std.proofs.Common.{◌≡◌, ℕ, suc, ◌+◌, ◌-◌, ◌*◌, ◌<◌, ◌≤◌, true, false, cond, not, ◌&&◌, ◌||◌, eqb, ltb, List, [], ◌∷◌, ◌++◌, map, length, Some, None, Ok, decimal, Option, sym, refl, ap, ◌∙◌, one-add, arith}
-use Rattle.std.specs.List.{prefix_len, AllByRecursion}
+use Rattle.std.specs.List.{fold, prefix_len, AllByRecursion}
 use Rattle.std.proofs.lemmas.List.{append-nil, length-append, length_push, get_or_push, take_at, drop_at}
 use Rattle.std.proofs.lemmas.Bool.{cond-true, cond-false, and_from, and_left, lt-ltb, le-leb, eq-eqb, ne_eqb, ltb-true}
 use Rattle.std.proofs.lemmas.Bool.Decides.{nat_tests}
@@ -61,12 +61,7 @@ number_read p n behind short =
     (cond-false (eqb p 0 && eqb (length (decimal n)) 1) _ _ (and_left _ _ (ne_eqb p 0 (λ e. omega arith)))
     ∙ ap (number_or_text p (decimal n)) (numeral_decimal n short))
 
--- numbers after those that were read
-abbrev pub all_with : Numbers → List ℕ → Numbers
-all_with n [] = n
-all_with n (x ∷ xs) = all_with (with_number n x) xs
-
-numbers_read : (n : Numbers) (xs : List ℕ) → AllByRecursion Short xs → numbers_from n (map decimal xs) ≡ Ok (all_with n xs)
+numbers_read : (n : Numbers) (xs : List ℕ) → AllByRecursion Short xs → numbers_from n (map decimal xs) ≡ Ok (fold with_number n xs)
 numbers_read n [] h = refl
 numbers_read n (x ∷ xs) h =
     ap (λ r. and_then r (λ v. numbers_from (with_number n v) (map decimal xs))) (number_read (n.count + 1) x (omega arith) h.0)
@@ -123,7 +118,7 @@ length_spaced (n ∷ ns) h =
 -- A step whose words are numbers.
 module _ (s : Step) (h : InScript s) where
   numbers_back : takes_text (letter_for s) ≡ false → text_in s ≡ [] → length (numbers_in s) ≤ 9
-      → step_of (letter_for s) (all_with no_numbers (numbers_in s)) ≡ Some s → read_line (written s) ≡ Ok s
+      → step_of (letter_for s) (fold with_number no_numbers (numbers_in s)) ≡ Some s → read_line (written s) ≡ Ok s
   numbers_back plain bare few is =
       let ns = numbers_in s in
       let rest : spaced ns ++ text_in s ≡ spaced ns = ap (λ t. spaced ns ++ t) bare ∙ append-nil (spaced ns) in
@@ -142,7 +137,7 @@ created l e w k None = None
 created l e w k (Some bs) = Some (Create (ledger_id l) e w k bs)
 
 pub create_listed : (l e w k : ℕ) (xs : List ℕ) → 0 < length xs → length xs ≤ 5
-    → create_of (all_with no_numbers (l ∷ e ∷ w ∷ k ∷ xs)) ≡ created l e w k (made_list xs)
+    → create_of (fold with_number no_numbers (l ∷ e ∷ w ∷ k ∷ xs)) ≡ created l e w k (made_list xs)
 create_listed l e w k [] some few = absurd (omega arith)
 create_listed l e w k (a ∷ []) some few = refl
 create_listed l e w k (a ∷ b ∷ []) some few = refl
