@@ -42,8 +42,8 @@ fn split_end(line: &[u8]) -> (&[u8], bool)
     }
 }
 
-// The step that the text of a line asks for. `fits` says whether the line is ended and no longer than a line may be, which
-// decides only once each word has the form of its kind.
+// The step that the text of a line asks for. `fits` says whether the line is ended and no longer than a line may be. It is
+// passed along, since it decides only once each word has the form of its kind, and before any range.
 fn read_text(text: &[u8], fits: bool) -> Result<Step, LineFault>
     ensures { result ≡ read_text text.now fits }
 {
