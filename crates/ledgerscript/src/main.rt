@@ -2,13 +2,13 @@
 // The script is standard input, or the file that the argument names. All that matters is in the library `script`.
 #![tactic(auto)]
 
-use script::inputs::play_input;
+use script::inputs::{MAX_INPUT, play_input};
 use std::alloc::Global;
 use std::io::{Read, Write};
 use std::{env, fs, io};
 
 // One byte more than an input may have is enough to tell that it is too long.
-const ENOUGH: u64 = 32769;
+const ENOUGH: u64 = MAX_INPUT as u64 + 1;
 
 fn main(rt: HostRuntime) -> io::Result<()> {
     let input = read_input(&rt)?;
@@ -17,9 +17,7 @@ fn main(rt: HostRuntime) -> io::Result<()> {
 }
 
 fn read_input(rt: &HostRuntime) -> io::Result<Vec<u8>> {
-    let mut words = env::args(rt)?;
-    let _program = words.next();
-    match words.next() {
+    match env::args(rt)?.nth(1) {
         None => read_all(rt.alloc(), rt.stdin()),
         Some(name) => {
             let result = read_file(rt, name.as_str());

@@ -5,9 +5,9 @@ use Rattle.std.specs.List.{AllByRecursion}
 use Rattle.std.specs.Str.{all_ascii_digits}
 use Rattle.std.proofs.lemmas.Fmt.{decimal_digit, decimal_nonempty, first_decimal, length-decimal-le, digits_decimal, digits_value-decimal}
 use Rattle.std.proofs.lemmas.Str.Parse.{IsNumeralModel, numerals_by_fold, tells_all_ascii_digits}
-use Rattle.std.proofs.lemmas.Bool.{and_parts, cond-false, cases_lt}
+use Rattle.std.proofs.lemmas.Bool.{and_parts, cond-true, cond-false, cases_lt}
 use Rattle.std.proofs.lemmas.Bool.Decides.{nat_tests}
-use Rattle.words.specs.Numerals.{no_digit, onward, numeral}
+use Rattle.words.specs.Numerals.{onward, numeral}
 use Rattle.words.specs.Words.{inner}
 
 -- five digits write the number
@@ -22,19 +22,19 @@ value_on n (b ∷ bs) = value_on (n * 10 + (b - 48)) bs
 pub own : IsNumeralModel (λ ds. all_ascii_digits ds ≡ true) (value_on 0)
 own = numerals_by_fold _ tells_all_ascii_digits value_on (search rules)
 
--- a digit is no other byte, and no space
-is_digit : (b : ℕ) → is_ascii_digit b ≡ true → (no_digit b ≡ false) × (inner b ≡ true)
-is_digit b h = (grind (arith, nat_tests), grind (arith, nat_tests))
+-- a digit is no space
+inner_digit : (b : ℕ) → is_ascii_digit b ≡ true → inner b ≡ true
+inner_digit b h = grind (arith, nat_tests)
 
 onward_digits : (n : ℕ) (ds : List ℕ) → all_ascii_digits ds ≡ true → onward n ds ≡ Some (value_on n ds)
 onward_digits n [] h = refl
 onward_digits n (b ∷ bs) h =
     let p = and_parts (is_ascii_digit b) (all_ascii_digits bs) h in
-    cond-false _ _ _ (is_digit b p.0).0 ∙ onward_digits (n * 10 + (b - 48)) bs p.1
+    cond-true _ _ _ p.0 ∙ onward_digits (n * 10 + (b - 48)) bs p.1
 
 inner_digits : (ds : List ℕ) → all_ascii_digits ds ≡ true → AllByRecursion (λ b. inner b ≡ true) ds
 inner_digits [] h = tt
-inner_digits (b ∷ bs) h = let p = and_parts (is_ascii_digit b) (all_ascii_digits bs) h in ((is_digit b p.0).1, inner_digits bs p.1)
+inner_digits (b ∷ bs) h = let p = and_parts (is_ascii_digit b) (all_ascii_digits bs) h in (inner_digit b p.0, inner_digits bs p.1)
 
 module _ (n : ℕ) (short : Short n) where
   pub few_digits : length (decimal n) ≤ 5

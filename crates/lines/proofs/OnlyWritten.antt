@@ -1,6 +1,6 @@
 -- A line that is read as a step is the line that is written for it.
-use Rattle.std.proofs.Common.{◌≡◌, ℕ, zero, suc, ◌+◌, ◌-◌, ◌*◌, ◌<◌, ◌≤◌, min, Bool, true, false, cond, not, ◌&&◌, ◌||◌, eqb, ltb, leb, List, [], ◌∷◌, ◌++◌, length, get_or, take, drop, Some, None, Ok, Err, decimal, Option, Result, sym, refl, ap, ◌∙◌, subst, ⊎_elim, add-zero, one-add, arith}
-use Rattle.std.specs.List.{prefix_len, AllByRecursion}
+use Rattle.std.proofs.Common.{◌≡◌, ℕ, zero, suc, ◌+◌, ◌-◌, ◌*◌, ◌<◌, ◌≤◌, Bool, true, false, cond, not, ◌&&◌, ◌||◌, eqb, ltb, leb, List, [], ◌∷◌, ◌++◌, length, get_or, take, drop, Some, None, Ok, Err, decimal, Option, Result, sym, refl, ap, ◌∙◌, subst, ⊎_elim, add-zero, one-add, arith}
+use Rattle.std.specs.List.{fold, prefix_len, AllByRecursion}
 use Rattle.std.specs.Str.{all_ascii_digits}
 use Rattle.std.specs.Char.{is_ascii_digit}
 use Rattle.std.proofs.lemmas.Fmt.{decimal-digits_value}
@@ -17,18 +17,18 @@ use Rattle.ledgers.specs.declared.bodies.Body.{Body}
 use Rattle.ledgers.specs.declared.steps.Step.{Step}
 use Rattle.ledgers.specs.declared.steps.Step.TheVariants.{Create, Append, Resend, ChangeEnsemble, Close, Recover, AskAgain, Finish, Deliver, Duplicate, Discard, Stop, Start}
 use Rattle.words.specs.Letters.{byte_of, written_as, letter_of}
-use Rattle.words.specs.Numerals.{no_digit, onward, numeral}
+use Rattle.words.specs.Numerals.{onward, numeral}
 use Rattle.words.specs.Words.{inner, number_or_text, known_or_form, word_at, first_of, after_first, letter_in, number_in, body_in, body_or_range, printable, text}
 use Rattle.words.specs.declared.letters.Letter.{Letter}
 use Rattle.words.specs.declared.letters.Letter.TheVariants as letter
 use Rattle.words.specs.declared.faults.LineFault.{LineFault}
 use Rattle.lines.specs.Numbers.{more_words, and_then, no_numbers, with_number, numbers_from}
 use Rattle.lines.specs.Steps.{at_place, taking, create_of, step_of}
-use Rattle.lines.specs.Reading.{ended, text_of, is_line, ledger_word, misses_range, within_range, made_step, from_numbers, read_numbers, append_body, append_text, read_append, takes_text, by_letter, read_line}
+use Rattle.lines.specs.Reading.{ended, text_of, is_line, in_range, ranges, within_range, made_step, read_numbers, append_text, read_append, takes_text, read_line}
 use Rattle.lines.specs.Writing.{letter_for, numbers_in, text_in, spaced, written, sayable, InScript}
 use Rattle.lines.specs.declared.numbers.Numbers.{Numbers}
-use Rattle.lines.proofs.Cuts.{numbers_turn}
-use Rattle.lines.proofs.ReadBack.{all_with, created, create_listed}
+use Rattle.lines.proofs.Cuts.{cut_first, words_behind}
+use Rattle.lines.proofs.ReadBack.{created, create_listed}
 use Rattle.lines.proofs.Decimals.{Short, value_on, own}
 
 -- A cond that came out as one of its ways tells its test.
@@ -39,6 +39,11 @@ module _ {A : Type 0} (t : Bool) (x y : A) where
 
   not_else : (v : A) → cond t x y ≡ v → (y ≡ v → ⊥) → (t ≡ true) × (x ≡ v)
   not_else v e no-y = ⊎_elim (λ yes. (yes, sym (cond-true t x y yes) ∙ e)) (λ f. absurd (no-y (sym (cond-false t x y f) ∙ e))) (cases_Bool t)
+
+-- what went on to a value had one before
+ok_then : {A B E : Type 0} (r : Result A E) (f : A → Result B E) (v : B) → and_then r f ≡ Ok v → (x : A) × (r ≡ Ok x) × (f x ≡ Ok v)
+ok_then (Ok x) f v e = (x, refl, e)
+ok_then (Err g) f v e = cc
 
 -- Letters.
 -- a byte that is read as a letter is its byte, if that holds of the letters behind it
@@ -61,15 +66,15 @@ module _ (b : ℕ) (y : Letter) where
       (or_behind letter.Start None (λ e. absurd (none_some e))))))))))))))
     where
       none_some : None ≡ Some y → ⊥
-      none_some e = let z : ◌≡◌ {A = ℕ} 0 1 = cc in omega arith
+      none_some e = cc
 
 -- what is no letter is not read as one
 no_letter : (w : List ℕ) (o : Option ℕ) (x : Letter) → letter_in (number_or_text 0 w o) ≡ Ok x → ⊥
-no_letter w None x e = let z : ◌≡◌ {A = ℕ} 0 1 = cc in omega arith
-no_letter w (Some n) x e = let z : ◌≡◌ {A = ℕ} 0 1 = cc in omega arith
+no_letter w None x e = cc
+no_letter w (Some n) x e = cc
 
 known_letter : (o : Option Letter) (x : Letter) → known_or_form 0 o ≡ Ok x → o ≡ Some x
-known_letter None x e = let z : ◌≡◌ {A = ℕ} 0 1 = cc in absurd (omega arith)
+known_letter None x e = cc
 known_letter (Some y) x e = let same : y ≡ x = cc in ap Some same
 
 letter_was : (w : List ℕ) (x : Letter) → letter_in (word_at 0 w) ≡ Ok x → w ≡ byte_of x ∷ []
@@ -83,15 +88,14 @@ letter_was (b ∷ c ∷ bs) x e =
 onward_was : (n : ℕ) (ds : List ℕ) (v : ℕ) → onward n ds ≡ Some v → (all_ascii_digits ds ≡ true) × (value_on n ds ≡ v)
 onward_was n [] v e = (refl, cc)
 onward_was n (b ∷ bs) v e =
-    let none : None ≡ Some v → ⊥ = λ f. let z : ◌≡◌ {A = ℕ} 0 1 = cc in omega arith in
-    let way = not_then (no_digit b) None (onward (n * 10 + (b - 48)) bs) (Some v) e none in
-    let digit : is_ascii_digit b ≡ true = grind (arith, nat_tests, way.0) in
+    let none : None ≡ Some v → ⊥ = λ f. cc in
+    let way = not_else (is_ascii_digit b) (onward (n * 10 + (b - 48)) bs) None (Some v) e none in
     let rest = onward_was (n * 10 + (b - 48)) bs v way.1 in
-    (and_from _ _ digit rest.0, rest.1)
+    (and_from _ _ way.0 rest.0, rest.1)
 
 numeral_was : (w : List ℕ) (n : ℕ) → numeral w ≡ Some n → (w ≡ decimal n) × Short n
 numeral_was w n e =
-    let none : None ≡ Some n → ⊥ = λ f. let z : ◌≡◌ {A = ℕ} 0 1 = cc in omega arith in
+    let none : None ≡ Some n → ⊥ = λ f. cc in
     let sized = not_then (eqb (length w) 0 || ltb 5 (length w)) None _ (Some n) e none in
     let led = not_then (eqb (get_or w 0 0) 48 && ltb 1 (length w)) None _ (Some n) sized.1 none in
     let read = onward_was 0 w n led.1 in
@@ -102,7 +106,7 @@ numeral_was w n e =
     (sym (ap decimal (sym read.1) ∙ decimal-digits_value own w read.0 some zero_alone (omega arith)), subst Short read.1 short)
 
 number_or_text_was : (p : ℕ) (w : List ℕ) (o : Option ℕ) (n : ℕ) → number_in (number_or_text p w o) ≡ Ok n → o ≡ Some n
-number_or_text_was p w None n e = let z : ◌≡◌ {A = ℕ} 0 1 = cc in absurd (omega arith)
+number_or_text_was p w None n e = cc
 number_or_text_was p w (Some m) n e = let same : m ≡ n = cc in ap Some same
 
 number_was : (p : ℕ) (w : List ℕ) (n : ℕ) → 0 < p → number_in (word_at p w) ≡ Ok n → (w ≡ decimal n) × Short n
@@ -124,30 +128,18 @@ gap_after (b ∷ bs) = at (inner b) refl (gap_after bs)
 gap_space : (b : ℕ) (bs : List ℕ) → prefix_len inner (b ∷ bs) ≡ 0 → b ≡ 32
 gap_space b bs gap = grind (arith, nat_tests)
 
+-- a number is written in front, with the space before it
+number_first : (b : ℕ) (l : List ℕ) (x : ℕ) → prefix_len inner (b ∷ l) ≡ 0 → first_of l ≡ decimal x → b ∷ l ≡ 32 ∷ decimal x ++ after_first l
+number_first b l x gap word =
+    ap (λ c. c ∷ l) (gap_space b l gap) ∙ ap (λ t. 32 ∷ t) (sym (take-append-drop (prefix_len inner l) l))
+    ∙ ap (λ w. 32 ∷ w ++ after_first l) word
+
 -- The numbers behind a letter: ws is what is written for them.
 record Numbered (n : Numbers) (ws : List ℕ) (m : Numbers) : Type 0 where
   ns : List ℕ
   is : ws ≡ spaced ns
   short : AllByRecursion Short ns
-  all : m ≡ all_with n ns
-
--- one number more in front
-module _ (n m : Numbers) (b : ℕ) (l : List ℕ) (gap : prefix_len inner (b ∷ l) ≡ 0)
-    (later : (x : ℕ) → numbers_from (with_number n x) (more_words (after_first l)) ≡ Ok m → Numbered (with_number n x) (after_first l) m) where
-  by_first : (r : Result ℕ LineFault) → number_in (word_at (n.count + 1) (first_of l)) ≡ r
-      → and_then r (λ x. numbers_from (with_number n x) (more_words (after_first l))) ≡ Ok m → Numbered n (b ∷ l) m
-  by_first (Err f) is e = let z : ◌≡◌ {A = ℕ} 0 1 = cc in absurd (omega arith)
-  by_first (Ok x) is e =
-      let first = number_was (n.count + 1) (first_of l) x (omega arith) is in
-      let rest = later x e in
-      record {
-        ns = x ∷ rest.ns;
-        is =
-            ap (λ c. c ∷ l) (gap_space b l gap) ∙ ap (λ t. 32 ∷ t) (sym (take-append-drop (prefix_len inner l) l))
-            ∙ ap (λ w. 32 ∷ w ++ after_first l) first.0 ∙ ap (λ t. 32 ∷ decimal x ++ t) rest.is;
-        short = (first.1, rest.short);
-        all = rest.all;
-      }
+  all : m ≡ fold with_number n ns
 
 -- k bounds the length of what is left
 numbers_were : (k : ℕ) (n m : Numbers) (ws : List ℕ) → length ws ≤ k → prefix_len inner ws ≡ 0 → numbers_from n (more_words ws) ≡ Ok m
@@ -155,10 +147,18 @@ numbers_were : (k : ℕ) (n m : Numbers) (ws : List ℕ) → length ws ≤ k →
 numbers_were k n m [] few gap e = record { ns = []; is = refl; short = tt; all = cc }
 numbers_were zero n m (b ∷ l) few gap e = absurd (omega arith)
 numbers_were (suc k) n m (b ∷ l) few gap e =
-    let turn = numbers_turn n (b ∷ l) l (after_first l) (word_at (n.count + 1) (first_of l)) (omega arith) _ refl refl refl refl in
-    by_first n m b l gap
-    (λ x f. numbers_were k (with_number n x) m (after_first l) (omega (arith, length-drop (prefix_len inner l) l)) (gap_after l) f)
-    (number_in (word_at (n.count + 1) (first_of l))) refl (sym turn ∙ e)
+    let words : more_words (b ∷ l) ≡ first_of l ∷ more_words (after_first l) = words_behind (b ∷ l) (omega arith) ∙ cut_first l in
+    let read : numbers_from n (first_of l ∷ more_words (after_first l)) ≡ Ok m = ap (numbers_from n) (sym words) ∙ e in
+    let one = ok_then (number_in (word_at (n.count + 1) (first_of l))) _ m read in
+    let first = number_was (n.count + 1) (first_of l) one.0 (omega arith) one.1 in
+    let few_left : length (after_first l) ≤ k = omega (arith, length-drop (prefix_len inner l) l) in
+    let rest = numbers_were k (with_number n one.0) m (after_first l) few_left (gap_after l) one.2 in
+    record {
+      ns = one.0 ∷ rest.ns;
+      is = number_first b l one.0 gap first.0 ∙ ap (λ t. 32 ∷ decimal one.0 ++ t) rest.is;
+      short = (first.1, rest.short);
+      all = rest.all;
+    }
 
 -- Steps.
 -- what numbers behind a letter say of the step that they make
@@ -168,36 +168,36 @@ record MadeOf (x : Letter) (ns : List ℕ) (s : Step) : Type 0 where
   bare : text_in s ≡ []
   said : sayable s ≡ true
 
-count_all : (n : Numbers) (xs : List ℕ) → (all_with n xs).count ≡ n.count + length xs
+count_all : (n : Numbers) (xs : List ℕ) → (fold with_number n xs).count ≡ n.count + length xs
 count_all n [] = sym (add-zero n.count)
 count_all n (x ∷ xs) = omega (arith, count_all (with_number n x) xs)
 
 no_step : (s : Step) → None ≡ Some s → ⊥
-no_step s e = let z : ◌≡◌ {A = ℕ} 0 1 = cc in omega arith
+no_step s e = cc
 
 -- a step that takes k numbers was made of k
-taken_count : (k : ℕ) (ns : List ℕ) (f s : Step) → taking k (all_with no_numbers ns) f ≡ Some s → length ns ≡ k
+taken_count : (k : ℕ) (ns : List ℕ) (f s : Step) → taking k (fold with_number no_numbers ns) f ≡ Some s → length ns ≡ k
 taken_count k ns f s e =
-    let way = not_else (eqb (all_with no_numbers ns).count k) (Some f) None (Some s) e (no_step s) in
-    omega (arith, count_all no_numbers ns, eqb-true (all_with no_numbers ns).count k way.0)
+    let way = not_else (eqb (fold with_number no_numbers ns).count k) (Some f) None (Some s) e (no_step s) in
+    omega (arith, count_all no_numbers ns, eqb-true (fold with_number no_numbers ns).count k way.0)
 
 module _ (x : Letter) (s : Step) where
   of_one : (f : ℕ → Step) → ((a : ℕ) → MadeOf x (a ∷ []) (f a)) → (ns : List ℕ)
-      → taking 1 (all_with no_numbers ns) (f (at_place (all_with no_numbers ns) 0)) ≡ Some s → MadeOf x ns s
+      → taking 1 (fold with_number no_numbers ns) (f (at_place (fold with_number no_numbers ns) 0)) ≡ Some s → MadeOf x ns s
   of_one f each [] e = absurd (no_step s e)
   of_one f each (a ∷ []) e = let is : f a ≡ s = cc in subst (MadeOf x (a ∷ [])) is (each a)
   of_one f each (a ∷ b ∷ ns) e = absurd (omega (arith, taken_count 1 (a ∷ b ∷ ns) _ s e))
 
   of_two : (f : ℕ → ℕ → Step) → ((a b : ℕ) → MadeOf x (a ∷ b ∷ []) (f a b)) → (ns : List ℕ)
-      → taking 2 (all_with no_numbers ns) (f (at_place (all_with no_numbers ns) 0) (at_place (all_with no_numbers ns) 1)) ≡ Some s → MadeOf x ns s
+      → taking 2 (fold with_number no_numbers ns) (f (at_place (fold with_number no_numbers ns) 0) (at_place (fold with_number no_numbers ns) 1)) ≡ Some s → MadeOf x ns s
   of_two f each [] e = absurd (no_step s e)
   of_two f each (a ∷ []) e = absurd (no_step s e)
   of_two f each (a ∷ b ∷ []) e = let is : f a b ≡ s = cc in subst (MadeOf x (a ∷ b ∷ [])) is (each a b)
   of_two f each (a ∷ b ∷ c ∷ ns) e = absurd (omega (arith, taken_count 2 (a ∷ b ∷ c ∷ ns) _ s e))
 
   of_three : (f : ℕ → ℕ → ℕ → Step) → ((a b c : ℕ) → MadeOf x (a ∷ b ∷ c ∷ []) (f a b c)) → (ns : List ℕ)
-      → taking 3 (all_with no_numbers ns)
-      (f (at_place (all_with no_numbers ns) 0) (at_place (all_with no_numbers ns) 1) (at_place (all_with no_numbers ns) 2)) ≡ Some s
+      → taking 3 (fold with_number no_numbers ns)
+      (f (at_place (fold with_number no_numbers ns) 0) (at_place (fold with_number no_numbers ns) 1) (at_place (fold with_number no_numbers ns) 2)) ≡ Some s
       → MadeOf x ns s
   of_three f each [] e = absurd (no_step s e)
   of_three f each (a ∷ []) e = absurd (no_step s e)
@@ -206,15 +206,15 @@ module _ (x : Letter) (s : Step) where
   of_three f each (a ∷ b ∷ c ∷ d ∷ ns) e = absurd (omega (arith, taken_count 3 (a ∷ b ∷ c ∷ d ∷ ns) _ s e))
 
 -- a create was made of four numbers and one to five bookies
-create_count : (ns : List ℕ) (s : Step) → create_of (all_with no_numbers ns) ≡ Some s → (5 ≤ length ns) × (length ns ≤ 9)
+create_count : (ns : List ℕ) (s : Step) → create_of (fold with_number no_numbers ns) ≡ Some s → (5 ≤ length ns) × (length ns ≤ 9)
 create_count ns s e =
-    let n = all_with no_numbers ns in
+    let n = fold with_number no_numbers ns in
     let way = not_then (ltb n.count 5 || ltb 9 n.count) None _ (Some s) e (no_step s) in
     let tests = or_parts (ltb n.count 5) (ltb 9 n.count) way.0 in
     let all = count_all no_numbers ns in
     (omega (arith, ltb-false n.count 5 tests.0), omega (arith, ltb-false 9 n.count tests.1))
 
-of_create : (ns : List ℕ) (s : Step) → create_of (all_with no_numbers ns) ≡ Some s → MadeOf letter.Create ns s
+of_create : (ns : List ℕ) (s : Step) → create_of (fold with_number no_numbers ns) ≡ Some s → MadeOf letter.Create ns s
 of_create [] s e = absurd (no_step s e)
 of_create (a ∷ []) s e = absurd (no_step s e)
 of_create (a ∷ b ∷ []) s e = absurd (no_step s e)
@@ -230,7 +230,7 @@ of_create (l ∷ n ∷ w ∷ k ∷ xs) s e =
       letter = refl;
       numbers = ap (λ bs. l ∷ n ∷ w ∷ k ∷ bs) (listed_of xs few);
       bare = refl;
-      said = lt-ltb 0 (length (listed (list_of xs))) (omega (arith, some, ap length (listed_of xs few)));
+      said = lt-ltb 0 (length (listed (list_of xs))) (omega (arith, ap length (listed_of xs few)));
     })
   where
     same : {t : Step} → Some t ≡ Some s → t ≡ s
@@ -239,7 +239,7 @@ of_create (l ∷ n ∷ w ∷ k ∷ xs) s e =
 plain : {x : Letter} {ns : List ℕ} {s : Step} → letter_for s ≡ x → numbers_in s ≡ ns → text_in s ≡ [] → sayable s ≡ true → MadeOf x ns s
 plain a b c d = record { letter = a; numbers = b; bare = c; said = d }
 
-step_was : (x : Letter) (ns : List ℕ) (s : Step) → step_of x (all_with no_numbers ns) ≡ Some s → MadeOf x ns s
+step_was : (x : Letter) (ns : List ℕ) (s : Step) → step_of x (fold with_number no_numbers ns) ≡ Some s → MadeOf x ns s
 step_was letter.Create ns s e = of_create ns s e
 step_was letter.Append ns s e = absurd (no_step s e)
 step_was letter.Resend ns s e = of_one letter.Resend s (λ a. Resend (ledger_id a)) (λ a. plain refl refl refl refl) ns e
@@ -263,34 +263,31 @@ record ReadAs (x : Letter) (fits : Bool) (ws : List ℕ) (s : Step) : Type 0 whe
   within : InScript s
 
 no_fault : {A : Type 0} (f : LineFault) (v : A) → Err f ≡ Ok v → ⊥
-no_fault f v e = let z : ◌≡◌ {A = ℕ} 0 1 = cc in omega arith
+no_fault f v e = cc
 
-made_was : (fits : Bool) (o : Option Step) (s : Step) → made_step fits o ≡ Ok s → (o ≡ Some s) × (fits ≡ true) × (misses_range s ≡ 0)
+made_was : (fits : Bool) (o : Option Step) (s : Step) → made_step fits o ≡ Ok s → (o ≡ Some s) × (fits ≡ true) × (ranges s ≡ Ok tt)
 made_was fits None s e = absurd (no_fault _ s e)
 made_was fits (Some t) s e =
     let line = not_else fits (within_range t) _ (Ok s) e (no_fault _ s) in
-    let ranged = not_else (eqb (misses_range t) 0) (Ok t) _ (Ok s) line.1 (no_fault _ s) in
-    let r : Ok t ≡ Ok s = ranged.1 in
+    let ranged = ok_then (ranges t) (λ _. Ok t) s line.1 in
+    let r : Ok t ≡ Ok s = ranged.2 in
     let same : t ≡ s = cc in
-    (ap Some same, line.0, ap misses_range (sym same) ∙ eqb-true (misses_range t) 0 ranged.0)
+    (ap Some same, line.0, ap ranges (sym same) ∙ ranged.1)
 
 read_numbers_was : (x : Letter) (fits : Bool) (ws : List ℕ) (s : Step) → prefix_len inner ws ≡ 0 → read_numbers x fits ws ≡ Ok s → ReadAs x fits ws s
-read_numbers_was x fits ws s gap e = from (numbers_from no_numbers (more_words ws)) refl e
-  where
-    from : (r : Result Numbers LineFault) → numbers_from no_numbers (more_words ws) ≡ r → from_numbers x fits r ≡ Ok s → ReadAs x fits ws s
-    from (Err f) is e = absurd (no_fault f s e)
-    from (Ok m) is e =
-        let numbers = numbers_were (length ws) no_numbers m ws (omega arith) gap is in
-        let made = made_was fits (step_of x m) s e in
-        let of = step_was x numbers.ns s (ap (step_of x) (sym numbers.all) ∙ made.0) in
-        record {
-          letter = of.letter;
-          line = made.1;
-          rest =
-              numbers.is ∙ ap spaced (sym of.numbers) ∙ sym (append-nil (spaced (numbers_in s)))
-              ∙ ap (λ t. spaced (numbers_in s) ++ t) (sym of.bare);
-          within = record { ranged = made.2; short = subst (AllByRecursion Short) (sym of.numbers) numbers.short; said = of.said };
-        }
+read_numbers_was x fits ws s gap e =
+    let read = ok_then (numbers_from no_numbers (more_words ws)) _ s e in
+    let numbers = numbers_were (length ws) no_numbers read.0 ws (omega arith) gap read.1 in
+    let made = made_was fits (step_of x read.0) s read.2 in
+    let of = step_was x numbers.ns s (ap (step_of x) (sym numbers.all) ∙ made.0) in
+    record {
+      letter = of.letter;
+      line = made.1;
+      rest =
+          numbers.is ∙ ap spaced (sym of.numbers) ∙ sym (append-nil (spaced (numbers_in s)))
+          ∙ ap (λ t. spaced (numbers_in s) ++ t) (sym of.bare);
+      within = record { ranged = made.2; short = subst (AllByRecursion Short) (sym of.numbers) numbers.short; said = of.said };
+    }
 
 -- An append.
 body_was : (bs : List ℕ) (b : Body) → body_in (text bs 2) ≡ Ok b → (printable bs ≡ true) × (content b ≡ bs)
@@ -304,44 +301,36 @@ body_was bs b e = by (leb (length bs) 40) refl e
         let same : body_of bs ≡ b = cc in
         (way.0, ap content (sym same) ∙ content_of bs (leb-true (length bs) 40 is))
 
-append_body_was : (n : ℕ) (r : Result Body LineFault) (s : Step) → append_body n r ≡ Ok s → (b : Body) × (r ≡ Ok b) × (Append (ledger_id n) b ≡ s)
-append_body_was n (Err f) s e = absurd (no_fault f s e)
-append_body_was n (Ok b) s e = (b, refl, cc)
-
-append_text_was : (fits : Bool) (n : ℕ) (rest : List ℕ) (s : Step) → prefix_len inner rest ≡ 0 → Short n → append_text fits (Ok n) rest ≡ Ok s
+append_text_was : (fits : Bool) (n : ℕ) (rest : List ℕ) (s : Step) → prefix_len inner rest ≡ 0 → Short n → append_text fits n rest ≡ Ok s
     → ReadAs letter.Append fits (32 ∷ decimal n ++ rest) s
 append_text_was fits n [] s gap short e = absurd (no_fault _ s e)
 append_text_was fits n (c ∷ t) s gap short e =
     let way = not_then (eqb (length (c ∷ t)) 0 || not fits) _ _ (Ok s) e (no_fault _ s) in
     let fitting = not-false fits (or_parts (eqb (length (c ∷ t)) 0) (not fits) way.0).1 in
-    let ranged = not_else (is_ledger n) _ _ (Ok s) way.1 (no_fault _ s) in
-    let made = append_body_was n (body_in (text t 2)) s ranged.1 in
+    let ranged = ok_then (in_range (is_ledger n) 1) _ s way.1 in
+    let made = ok_then (body_in (text t 2)) _ s ranged.2 in
     let body = body_was t made.0 made.1 in
-    let in_range : ledger_word (ledger_id n) 1 ≡ 0 = cond-true (is_ledger n) 0 1 ranged.0 in
+    let r : Ok (Append (ledger_id n) made.0) ≡ Ok s = made.2 in
+    let is : Append (ledger_id n) made.0 ≡ s = cc in
     let digits = decimal n in
-    subst (ReadAs letter.Append fits (32 ∷ digits ++ (c ∷ t))) made.2
+    subst (ReadAs letter.Append fits (32 ∷ digits ++ (c ∷ t))) is
     (record {
       letter = refl;
       line = fitting;
       rest =
           ap (λ l. 32 ∷ digits ++ l) (ap (λ b. b ∷ t) (gap_space c t gap) ∙ ap (λ l. 32 ∷ l) (sym body.1))
           ∙ ap (λ d. 32 ∷ d ++ (32 ∷ content made.0)) (sym (append-nil digits));
-      within = record { ranged = in_range; short = (short, tt); said = ap printable body.1 ∙ body.0 };
+      within = record { ranged = ranged.1; short = (short, tt); said = ap printable body.1 ∙ body.0 };
     })
 
 read_append_was : (fits : Bool) (ws : List ℕ) (s : Step) → prefix_len inner ws ≡ 0 → read_append fits ws ≡ Ok s → ReadAs letter.Append fits ws s
 read_append_was fits [] s gap e = absurd (no_fault _ s e)
 read_append_was fits (b ∷ l) s gap e =
-    from (number_in (word_at 1 (first_of l))) refl (sym (cond-false (eqb (length (b ∷ l)) 0) _ _ (ne_eqb _ 0 (λ z. omega arith))) ∙ e)
-  where
-    from : (r : Result ℕ LineFault) → number_in (word_at 1 (first_of l)) ≡ r → append_text fits r (after_first l) ≡ Ok s → ReadAs letter.Append fits (b ∷ l) s
-    from (Err f) is e = absurd (no_fault f s e)
-    from (Ok n) is e =
-        let number = number_was 1 (first_of l) n (omega arith) is in
-        let whole : 32 ∷ decimal n ++ after_first l ≡ b ∷ l =
-        ap (λ w. 32 ∷ w ++ after_first l) (sym number.0) ∙ ap (λ t. 32 ∷ t) (take-append-drop (prefix_len inner l) l)
-        ∙ ap (λ c. c ∷ l) (sym (gap_space b l gap)) in
-        subst (λ ws. ReadAs letter.Append fits ws s) whole (append_text_was fits n (after_first l) s (gap_after l) number.1 e)
+    let some = ne_eqb (length (b ∷ l)) 0 (λ z. omega arith) in
+    let read = ok_then (number_in (word_at 1 (first_of l))) _ s (sym (cond-false (eqb (length (b ∷ l)) 0) _ _ some) ∙ e) in
+    let number = number_was 1 (first_of l) read.0 (omega arith) read.1 in
+    let whole = sym (number_first b l read.0 gap number.0) in
+    subst (λ ws. ReadAs letter.Append fits ws s) whole (append_text_was fits read.0 (after_first l) s (gap_after l) number.1 read.2)
 
 -- A whole line.
 -- only an append takes a text
@@ -373,23 +362,19 @@ ended_was l e =
     ∙ ap (λ t. t ++ 10 ∷ []) (sym (cond-true (ended l) (take (length l - 1) l) l e))
 
 pub only_written : (l : List ℕ) (s : Step) → read_line l ≡ Ok s → InScript s × (l ≡ written s)
-only_written l s e = from (letter_in (word_at 0 (first_of t))) refl e
-  where
-    t : List ℕ
-    t = text_of l
-
-    from : (r : Result Letter LineFault) → letter_in (word_at 0 (first_of t)) ≡ r → by_letter r (is_line l) (after_first t) ≡ Ok s → InScript s × (l ≡ written s)
-    from (Err f) is e = absurd (no_fault f s e)
-    from (Ok x) is e =
-        let gap = gap_after t in
-        let read : ReadAs x (is_line l) (after_first t) s =
-        ⊎_elim
-        (λ text. let y = takes_text_was x text in subst (λ z. ReadAs z (is_line l) (after_first t) s) y (read_append_was (is_line l) (after_first t) s gap (sym (cond-true _ _ _ text) ∙ e)))
-        (λ numbers. read_numbers_was x (is_line l) (after_first t) s gap (sym (cond-false _ _ _ numbers) ∙ e))
-        (cases_Bool (takes_text x)) in
-        let line = and_parts (ended l) (leb (length l) 80) read.line in (
-          read.within,
-          ended_was l line.0 ∙ ap (λ v. v ++ 10 ∷ [])
-              (sym (take-append-drop (prefix_len inner t) t) ∙ ap (λ w. w ++ after_first t) (letter_was (first_of t) x is)
-              ∙ ap (λ y. (byte_of y ∷ []) ++ after_first t) (sym read.letter) ∙ ap (λ ws. (byte_of (letter_for s) ∷ []) ++ ws) read.rest),
-        )
+only_written l s e =
+    let t = text_of l in
+    let gap = gap_after t in
+    let first = ok_then (letter_in (word_at 0 (first_of t))) _ s e in
+    let x = first.0 in
+    let read : ReadAs x (is_line l) (after_first t) s =
+    ⊎_elim
+    (λ text. let y = takes_text_was x text in subst (λ z. ReadAs z (is_line l) (after_first t) s) y (read_append_was (is_line l) (after_first t) s gap (sym (cond-true _ _ _ text) ∙ first.2)))
+    (λ numbers. read_numbers_was x (is_line l) (after_first t) s gap (sym (cond-false _ _ _ numbers) ∙ first.2))
+    (cases_Bool (takes_text x)) in
+    let line = and_parts (ended l) (leb (length l) 80) read.line in (
+      read.within,
+      ended_was l line.0 ∙ ap (λ v. v ++ 10 ∷ [])
+          (sym (take-append-drop (prefix_len inner t) t) ∙ ap (λ w. w ++ after_first t) (letter_was (first_of t) x first.1)
+          ∙ ap (λ y. (byte_of y ∷ []) ++ after_first t) (sym read.letter) ∙ ap (λ ws. (byte_of (letter_for s) ∷ []) ++ ws) read.rest),
+    )

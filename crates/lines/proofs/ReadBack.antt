@@ -1,10 +1,9 @@
 -- What is written for a step is read as that step.
 use Rattle.std.proofs.Common.{◌≡◌, ℕ, suc, ◌+◌, ◌-◌, ◌*◌, ◌<◌, ◌≤◌, true, false, cond, not, ◌&&◌, ◌||◌, eqb, ltb, List, [], ◌∷◌, ◌++◌, map, length, Some, None, Ok, decimal, Option, sym, refl, ap, ◌∙◌, one-add, arith}
-use Rattle.std.specs.List.{prefix_len, AllByRecursion}
+use Rattle.std.specs.List.{fold, prefix_len, AllByRecursion}
 use Rattle.std.proofs.lemmas.List.{append-nil, length-append, length_push, get_or_push, take_at, drop_at}
 use Rattle.std.proofs.lemmas.Bool.{cond-true, cond-false, and_from, and_left, lt-ltb, le-leb, eq-eqb, ne_eqb, ltb-true}
 use Rattle.std.proofs.lemmas.Bool.Decides.{nat_tests}
-use Rattle.ledgers.specs.Limits.{is_ledger}
 use Rattle.ledgers.specs.Ids.{ledger_id}
 use Rattle.ledgers.specs.Bodies.{content}
 use Rattle.ledgers.specs.BookieLists.{listed, made_list}
@@ -15,15 +14,15 @@ use Rattle.ledgers.specs.declared.ids.LedgerId.{LedgerId}
 use Rattle.ledgers.specs.declared.steps.Step.{Step}
 use Rattle.ledgers.specs.declared.steps.Step.TheVariants.{Create, Append, Resend, ChangeEnsemble, Close, Recover, AskAgain, Finish, Deliver, Duplicate, Discard, Stop, Start}
 use Rattle.words.specs.Letters.{byte_of}
-use Rattle.words.specs.Words.{inner, number_or_text, word_at, first_of, after_first, letter_in, number_in, body_or_range, printable}
-use Rattle.lines.specs.Numbers.{cut, more_words, and_then, no_numbers, with_number, numbers_from}
+use Rattle.words.specs.Words.{inner, number_or_text, word_at, first_of, after_first, letter_in, number_in, body_in, body_or_range, printable, text}
+use Rattle.lines.specs.Numbers.{more_words, and_then, no_numbers, with_number, numbers_from}
 use Rattle.lines.specs.Steps.{create_of, step_of}
-use Rattle.lines.specs.Reading.{ended, text_of, is_line, made_step, from_numbers, read_numbers, append_body, append_text, read_append, takes_text, by_letter, read_line}
+use Rattle.lines.specs.Reading.{ended, text_of, is_line, made_step, read_numbers, append_text, read_append, takes_text, by_letter, read_text, read_line}
 use Rattle.lines.specs.Writing.{letter_for, numbers_in, text_in, spaced, written, InScript}
 use Rattle.words.specs.declared.letters.Letter.{Letter}
 use Rattle.words.specs.declared.letters.Letter.TheVariants as letter
 use Rattle.lines.specs.declared.numbers.Numbers.{Numbers}
-use Rattle.lines.proofs.Cuts.{cut_first}
+use Rattle.lines.proofs.Cuts.{cut, cut_first}
 use Rattle.lines.proofs.Decimals.{Short, few_digits, numeral_decimal, inner_decimal}
 
 -- A word ends where a gap begins: at the end of the text or at a space.
@@ -62,12 +61,7 @@ number_read p n behind short =
     (cond-false (eqb p 0 && eqb (length (decimal n)) 1) _ _ (and_left _ _ (ne_eqb p 0 (λ e. omega arith)))
     ∙ ap (number_or_text p (decimal n)) (numeral_decimal n short))
 
--- numbers after those that were read
-abbrev pub all_with : Numbers → List ℕ → Numbers
-all_with n [] = n
-all_with n (x ∷ xs) = all_with (with_number n x) xs
-
-numbers_read : (n : Numbers) (xs : List ℕ) → AllByRecursion Short xs → numbers_from n (map decimal xs) ≡ Ok (all_with n xs)
+numbers_read : (n : Numbers) (xs : List ℕ) → AllByRecursion Short xs → numbers_from n (map decimal xs) ≡ Ok (fold with_number n xs)
 numbers_read n [] h = refl
 numbers_read n (x ∷ xs) h =
     ap (λ r. and_then r (λ v. numbers_from (with_number n v) (map decimal xs))) (number_read (n.count + 1) x (omega arith) h.0)
@@ -110,11 +104,11 @@ module _ (x : Letter) (rest : List ℕ) (gap : prefix_len inner rest ≡ 0) (few
   by_its_letter =
       let t = byte_of x ∷ rest in
       let is = letter_read x in
-      ap (λ v. by_letter (letter_in (word_at 0 (first_of v))) (is_line (t ++ 10 ∷ [])) (after_first v)) (text_read t)
-      ∙ ap (λ fits. by_letter (letter_in (word_at 0 (first_of t))) fits (after_first t)) (line_read t (omega arith))
-      ∙ ap (λ w. by_letter (letter_in (word_at 0 w)) true (after_first t)) (first_word_is rest gap (byte_of x ∷ []) (is.1, tt))
-      ∙ ap (λ ws. by_letter (letter_in (word_at 0 (byte_of x ∷ []))) true ws) (after_word_is rest gap (byte_of x ∷ []) (is.1, tt))
-      ∙ ap (λ r. by_letter r true rest) is.0
+      ap (λ v. read_text v (is_line (t ++ 10 ∷ []))) (text_read t)
+      ∙ ap (read_text t) (line_read t (omega arith))
+      ∙ ap (λ w. and_then (letter_in (word_at 0 w)) (λ y. by_letter y true (after_first t))) (first_word_is rest gap (byte_of x ∷ []) (is.1, tt))
+      ∙ ap (λ ws. and_then (letter_in (word_at 0 (byte_of x ∷ []))) (λ y. by_letter y true ws)) (after_word_is rest gap (byte_of x ∷ []) (is.1, tt))
+      ∙ ap (λ r. and_then r (λ y. by_letter y true rest)) is.0
 
 length_spaced : (ns : List ℕ) → AllByRecursion Short ns → length (spaced ns) ≤ 6 * length ns
 length_spaced [] h = omega arith
@@ -124,7 +118,7 @@ length_spaced (n ∷ ns) h =
 -- A step whose words are numbers.
 module _ (s : Step) (h : InScript s) where
   numbers_back : takes_text (letter_for s) ≡ false → text_in s ≡ [] → length (numbers_in s) ≤ 9
-      → step_of (letter_for s) (all_with no_numbers (numbers_in s)) ≡ Some s → read_line (written s) ≡ Ok s
+      → step_of (letter_for s) (fold with_number no_numbers (numbers_in s)) ≡ Some s → read_line (written s) ≡ Ok s
   numbers_back plain bare few is =
       let ns = numbers_in s in
       let rest : spaced ns ++ text_in s ≡ spaced ns = ap (λ t. spaced ns ++ t) bare ∙ append-nil (spaced ns) in
@@ -132,10 +126,10 @@ module _ (s : Step) (h : InScript s) where
       ap (λ t. read_line ((byte_of (letter_for s) ∷ t) ++ 10 ∷ [])) rest
       ∙ by_its_letter (letter_for s) (spaced ns) gap (omega (arith, length_spaced ns h.short))
       ∙ cond-false _ _ _ plain
-      ∙ ap (λ ws. from_numbers (letter_for s) true (numbers_from no_numbers ws)) (words_spaced ns h.short)
-      ∙ ap (from_numbers (letter_for s) true) (numbers_read no_numbers ns h.short)
+      ∙ ap (λ ws. and_then (numbers_from no_numbers ws) (λ n. made_step true (step_of (letter_for s) n))) (words_spaced ns h.short)
+      ∙ ap (λ r. and_then r (λ n. made_step true (step_of (letter_for s) n))) (numbers_read no_numbers ns h.short)
       ∙ ap (made_step true) is
-      ∙ cond-true _ _ _ (eq-eqb _ 0 h.ranged)
+      ∙ ap (λ r. and_then r (λ _. Ok s)) h.ranged
 
 -- A create: its bookies are the numbers behind the fourth.
 abbrev pub created : ℕ → ℕ → ℕ → ℕ → Option BookieList → Option Step
@@ -143,7 +137,7 @@ created l e w k None = None
 created l e w k (Some bs) = Some (Create (ledger_id l) e w k bs)
 
 pub create_listed : (l e w k : ℕ) (xs : List ℕ) → 0 < length xs → length xs ≤ 5
-    → create_of (all_with no_numbers (l ∷ e ∷ w ∷ k ∷ xs)) ≡ created l e w k (made_list xs)
+    → create_of (fold with_number no_numbers (l ∷ e ∷ w ∷ k ∷ xs)) ≡ created l e w k (made_list xs)
 create_listed l e w k [] some few = absurd (omega arith)
 create_listed l e w k (a ∷ []) some few = refl
 create_listed l e w k (a ∷ b ∷ []) some few = refl
@@ -168,18 +162,18 @@ append_back l b h =
     let is : tail ≡ digits ++ text_part = ap (λ d. d ++ text_part) (append-nil digits) in
     let inners = inner_decimal l.0 h.short.0 in
     let short = content_short b in
-    let ranged : is_ledger l.0 ≡ true = grind (arith, nat_tests, h.ranged) in
+    let entry = λ (c : Body). Ok (Append (ledger_id l.0) c) in
     by_its_letter letter.Append (32 ∷ tail) refl
     (omega (arith, few_digits l.0 h.short.0, length-append digits text_part, ap length is))
     ∙ cond-false (eqb (length (32 ∷ tail)) 0) _ _ (ne_eqb _ 0 (λ e. omega arith))
-    ∙ ap (λ t. append_text true (number_in (word_at 1 (first_of t))) (after_first t)) is
-    ∙ ap (λ w. append_text true (number_in (word_at 1 w)) (after_first (digits ++ text_part))) (first_word_is text_part refl digits inners)
-    ∙ ap (λ r. append_text true r (after_first (digits ++ text_part))) (number_read 1 l.0 (omega arith) h.short.0)
-    ∙ ap (append_text true (Ok l.0)) (after_word_is text_part refl digits inners)
+    ∙ ap (λ t. and_then (number_in (word_at 1 (first_of t))) (λ n. append_text true n (after_first t))) is
+    ∙ ap (λ w. and_then (number_in (word_at 1 w)) (λ n. append_text true n (after_first (digits ++ text_part)))) (first_word_is text_part refl digits inners)
+    ∙ ap (λ r. and_then r (λ n. append_text true n (after_first (digits ++ text_part)))) (number_read 1 l.0 (omega arith) h.short.0)
+    ∙ ap (append_text true l.0) (after_word_is text_part refl digits inners)
     ∙ cond-false (eqb (length text_part) 0 || not true) _ _ (grind (arith, nat_tests))
-    ∙ cond-true _ _ _ ranged
-    ∙ ap (λ m. append_body l.0 (body_or_range 2 (printable (content b)) m)) (made_of_content b)
-    ∙ ap (append_body l.0) (cond-true (printable (content b)) _ _ h.said)
+    ∙ ap (λ r. and_then r (λ _. and_then (body_in (text (content b) 2)) entry)) h.ranged
+    ∙ ap (λ m. and_then (body_or_range 2 (printable (content b)) m) entry) (made_of_content b)
+    ∙ ap (λ r. and_then r entry) (cond-true (printable (content b)) _ _ h.said)
 
 pub read_back : (s : Step) → InScript s → read_line (written s) ≡ Ok s
 read_back (Create l e w k bs) h = create_back l e w k bs h

@@ -1,21 +1,13 @@
 -- The numbers of a line.
-use Rattle.std.specs.Prelude.{ℕ, ◌+◌, cond, List, [], ◌∷◌, length, drop, replicate, Ok, Err, Result, nat_lt, slice_set}
-use Rattle.words.specs.Words.{inner, word_at, number_in}
+use Rattle.std.specs.Prelude.{ℕ, ◌+◌, cond, List, [], ◌∷◌, ◌==◌, length, drop, replicate, Ok, Err, Result, nat_lt, slice_set}
+use Rattle.std.specs.List.{slice_split}
+use Rattle.words.specs.Words.{word_at, number_in}
 use Rattle.words.specs.declared.faults.LineFault.{LineFault}
 use Rattle.lines.specs.declared.numbers.Numbers.{Numbers}
 
-abbrev pub onto_first : ℕ → List (List ℕ) → List (List ℕ)
-onto_first b [] = (b ∷ []) ∷ []
-onto_first b (w ∷ ws) = (b ∷ w) ∷ ws
-
--- a text cut at each space: a word before the first, between two and behind the last, each of them perhaps empty
-abbrev pub cut : List ℕ → List (List ℕ)
-cut [] = [] ∷ []
-cut (b ∷ bs) = cond (inner b) (onto_first b (cut bs)) ([] ∷ cut bs)
-
--- the words behind a first one, each with a space before it
+-- the words behind a first one, each with a space before it; two spaces with none between have an empty one there
 abbrev pub more_words : List ℕ → List (List ℕ)
-more_words l = cond (nat_lt 0 (length l)) (cut (drop 1 l)) []
+more_words l = cond (nat_lt 0 (length l)) (slice_split (λ b. b == 32) (drop 1 l)) []
 
 -- what comes of a value; a fault stays as it is
 abbrev pub and_then : {A B E : Type 0} → Result A E → (A → Result B E) → Result B E

@@ -1,5 +1,5 @@
 -- The line that is written for a step, and what it promises to be read as.
-use Rattle.std.specs.Prelude.{◌≡◌, ℕ, ◌<◌, Bool, true, List, [], ◌∷◌, ◌++◌, Ok, decimal, nat_lt, length}
+use Rattle.std.specs.Prelude.{◌≡◌, ℕ, ◌<◌, Bool, true, List, [], ◌∷◌, ◌++◌, Ok, decimal, length, nat_lt}
 use Rattle.std.specs.List.{AllByRecursion}
 use Rattle.ledgers.specs.Bodies.{content}
 use Rattle.ledgers.specs.BookieLists.{listed}
@@ -7,7 +7,7 @@ use Rattle.ledgers.specs.declared.steps.Step.{Step}
 use Rattle.ledgers.specs.declared.steps.Step.TheVariants.{Create, Append, Resend, ChangeEnsemble, Close, Recover, AskAgain, Finish, Deliver, Duplicate, Discard, Stop, Start}
 use Rattle.words.specs.Letters.{byte_of}
 use Rattle.words.specs.Words.{printable}
-use Rattle.lines.specs.Reading.{misses_range, read_line}
+use Rattle.lines.specs.Reading.{ranges, read_line}
 use Rattle.words.specs.declared.letters.Letter.{Letter}
 use Rattle.words.specs.declared.letters.Letter.TheVariants as letter
 
@@ -45,19 +45,8 @@ numbers_in (Start b) = b.0 ∷ []
 
 -- the text behind them, with its space
 abbrev pub text_in : Step → List ℕ
-text_in (Create l e w k bs) = []
 text_in (Append l b) = 32 ∷ content b
-text_in (Resend l) = []
-text_in (ChangeEnsemble l p b) = []
-text_in (Close l) = []
-text_in (Recover r l) = []
-text_in (AskAgain r) = []
-text_in (Finish r) = []
-text_in (Deliver m) = []
-text_in (Duplicate m) = []
-text_in (Discard m) = []
-text_in (Stop b) = []
-text_in (Start b) = []
+text_in s = []
 
 -- each number in decimal digits, with a space before it
 abbrev pub spaced : List ℕ → List ℕ
@@ -72,22 +61,12 @@ written s = (byte_of (letter_for s) ∷ spaced (numbers_in s) ++ text_in s) ++ 1
 abbrev pub sayable : Step → Bool
 sayable (Create l e w k bs) = nat_lt 0 (length (listed bs))
 sayable (Append l b) = printable (content b)
-sayable (Resend l) = true
-sayable (ChangeEnsemble l p b) = true
-sayable (Close l) = true
-sayable (Recover r l) = true
-sayable (AskAgain r) = true
-sayable (Finish r) = true
-sayable (Deliver m) = true
-sayable (Duplicate m) = true
-sayable (Discard m) = true
-sayable (Stop b) = true
-sayable (Start b) = true
+sayable s = true
 
 -- a step within the script's ranges
 pub record InScript (s : Step) : Type 0 where
   -- its ledger is 1 to 16 and its recoverer 1 to 4
-  pub ranged : misses_range s ≡ 0
+  pub ranged : ranges s ≡ Ok tt
   -- five digits write each of its numbers
   pub short : AllByRecursion (λ n. n < 100000) (numbers_in s)
   pub said : sayable s ≡ true

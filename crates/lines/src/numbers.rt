@@ -6,7 +6,7 @@ ghost use Rattle.lines.specs.Steps.{create_of, step_of};
 use ledgers::bookie_lists::BookieList;
 use ledgers::ids::{BookieId, LedgerId, MessagePlace, Position, RecovererId};
 use ledgers::steps::Step;
-use words::{Letter, LineFault, first_word};
+use words::{Letter, LineFault, Word};
 
 // A create has the most: ledger, three sizes and five bookies.
 pub const MAX_NUMBERS: usize = 9;
@@ -14,8 +14,8 @@ pub const MAX_NUMBERS: usize = 9;
 #[derive(Clone, Copy)]
 pub struct Numbers {
     // The first nine; zeros where there are fewer.
-    pub values: [u32; 9],
-    // How many words there are, also where they are more.
+    pub values: [u32; MAX_NUMBERS],
+    // How many words there are, also where they are more: it is no length of what is kept, as an array vector's would be.
     pub count: usize,
 }
 
@@ -28,13 +28,12 @@ impl Numbers {
             values: [0; MAX_NUMBERS],
             count: 0,
         };
-        let mut left = words;
-        while left.len() > 0 {
-            let (_, tail) = left.split_at(1);
-            let (word, rest) = first_word(tail, numbers.count + 1);
-            let value = word.number()?;
-            numbers.push(value);
-            left = rest;
+        if words.is_empty() {
+            return Ok(numbers);
+        }
+        for word in words[1..].split(|byte| *byte == b' ') {
+            let word = Word::new(word, numbers.count + 1);
+            numbers.push(word.number()?);
         }
         Ok(numbers)
     }
@@ -54,52 +53,50 @@ impl Numbers {
     pub fn step(&self, letter: Letter) -> Option<Step>
         ensures { result ≡ step_of letter self.now }
     {
-        let [first, second, third, ..] = self.values;
-        let ledger = LedgerId(first);
-        let recoverer = RecovererId(first);
-        let message = MessagePlace(first);
-        let bookie = BookieId(first);
-        match (letter, self.count) {
-            (Letter::Create, _) => self.create(),
-            (Letter::Resend, 1) => Some(Step::Resend { ledger }),
-            (Letter::ChangeEnsemble, 3) => Some(Step::ChangeEnsemble {
-                ledger,
-                position: Position(second),
-                bookie: BookieId(third),
+        match (letter, self.values.get(..self.count)?) {
+            (Letter::Create, [ledger, ensemble, write_quorum, ack_quorum, bookies @ ..])
+                if !bookies.is_empty() => Some(Step::Create {
+                ledger: LedgerId(*ledger),
+                ensemble: *ensemble,
+                write_quorum: *write_quorum,
+                ack_quorum: *ack_quorum,
+                bookies: BookieList::new(bookies)?,
             }),
-            (Letter::Close, 1) => Some(Step::Close { ledger }),
-            (Letter::Recover, 2) => Some(Step::Recover {
-                recoverer,
-                ledger: LedgerId(second),
+            (Letter::ChangeEnsemble, [ledger, position, bookie]) => Some(Step::ChangeEnsemble {
+                ledger: LedgerId(*ledger),
+                position: Position(*position),
+                bookie: BookieId(*bookie),
             }),
-            (Letter::AskAgain, 1) => Some(Step::AskAgain { recoverer }),
-            (Letter::Finish, 1) => Some(Step::Finish { recoverer }),
-            (Letter::Deliver, 1) => Some(Step::Deliver { message }),
-            (Letter::Duplicate, 1) => Some(Step::Duplicate { message }),
-            (Letter::Discard, 1) => Some(Step::Discard { message }),
-            (Letter::Stop, 1) => Some(Step::Stop { bookie }),
-            (Letter::Start, 1) => Some(Step::Start { bookie }),
+            (Letter::Recover, [recoverer, ledger]) => Some(Step::Recover {
+                recoverer: RecovererId(*recoverer),
+                ledger: LedgerId(*ledger),
+            }),
+            (_, [_]) => self.step_of_one(letter),
             _ => None,
         }
     }
 
-    // A create takes four numbers and one to five bookies.
-    fn create(&self) -> Option<Step>
-        ensures { result ≡ create_of self.now }
+    // The same, where there is one number.
+    fn step_of_one(&self, letter: Letter) -> Option<Step>
+        requires { self.now.count ≡ 1 }
+        ensures { result ≡ step_of letter self.now }
     {
-        if self.count < 5 || self.count > MAX_NUMBERS {
-            return None;
-        }
-        let [ledger, ensemble, write_quorum, ack_quorum, ..] = self.values;
-        match BookieList::new(&self.values[4..self.count]) {
-            Some(bookies) => Some(Step::Create {
-                ledger: LedgerId(ledger),
-                ensemble,
-                write_quorum,
-                ack_quorum,
-                bookies,
-            }),
-            None => None,
+        let [number, ..] = self.values;
+        let ledger = LedgerId(number);
+        let recoverer = RecovererId(number);
+        let message = MessagePlace(number);
+        let bookie = BookieId(number);
+        match letter {
+            Letter::Resend => Some(Step::Resend { ledger }),
+            Letter::Close => Some(Step::Close { ledger }),
+            Letter::AskAgain => Some(Step::AskAgain { recoverer }),
+            Letter::Finish => Some(Step::Finish { recoverer }),
+            Letter::Deliver => Some(Step::Deliver { message }),
+            Letter::Duplicate => Some(Step::Duplicate { message }),
+            Letter::Discard => Some(Step::Discard { message }),
+            Letter::Stop => Some(Step::Stop { bookie }),
+            Letter::Start => Some(Step::Start { bookie }),
+            _ => None,
         }
     }
 }

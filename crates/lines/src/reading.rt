@@ -1,13 +1,12 @@
 // A whole line, read as the step that it asks for.
 ghost use Rattle.std.specs.Prelude.{◌≡◌};
-ghost use Rattle.ledgers.specs.Limits.{is_ledger, is_recoverer};
 ghost use Rattle.lines.specs.Writing.{LinesKeepSteps};
-ghost use Rattle.lines.specs.Reading.{ended as ended_line, text_of, ledger_word, recoverer_word, misses_range, first_letter, read_append, read_numbers, read_line};
+ghost use Rattle.lines.specs.Reading.{ended, text_of, in_range, ranges, first_letter, read_text, append_text, read_append, read_numbers, read_line};
 
 use crate::numbers::Numbers;
-use ledgers::ids::{LedgerId, MAX_LEDGERS, MAX_RECOVERERS, RecovererId};
+use ledgers::ids::LedgerId;
 use ledgers::steps::Step;
-use words::{Letter, LineFault, Word, first_word};
+use words::{Letter, LineFault, Word, WordKind, first_word};
 
 // With the byte 10 at its end.
 pub const MAX_LINE: usize = 80;
@@ -19,16 +18,35 @@ pub fn read_line(line: &[u8]) -> Result<Step, LineFault>
     ensures value { result ≡ read_line line.now }
     ensures law { LinesKeepSteps }
 {
-    read_ended(line, is_ended(line))
+    let (text, ended) = split_end(line);
+    read_text(text, ended && line.len() <= MAX_LINE)
 }
 
-// The same, once it is known whether byte 10 ends the line.
-fn read_ended(line: &[u8], ended: bool) -> Result<Step, LineFault>
-    requires { ended ≡ ended_line line.now }
-    ensures { result ≡ read_line line.now }
+// The letter that a line begins with, whatever else is wrong with it.
+pub fn line_letter(line: &[u8]) -> Option<Letter>
+    ensures { result ≡ first_letter line.now }
 {
-    let text = text_before_end(line, ended);
-    let fits = ended && line.len() <= MAX_LINE;
+    let (text, _) = split_end(line);
+    let (first, _) = first_word(text, 0);
+    first.letter().ok()
+}
+
+// What stands before the byte 10 at the end of a line, and whether it is there.
+fn split_end(line: &[u8]) -> (&[u8], bool)
+    ensures text { result.0.now ≡ text_of line.now }
+    ensures ended { result.1 ≡ ended line.now }
+{
+    match line {
+        [text @ .., b'\n'] => (text, true),
+        _ => (line, false),
+    }
+}
+
+// The step that the text of a line asks for. `fits` says whether the line is ended and no longer than a line may be. It is
+// passed along, since it decides only once each word has the form of its kind, and before any range.
+fn read_text(text: &[u8], fits: bool) -> Result<Step, LineFault>
+    ensures { result ≡ read_text text.now fits }
+{
     let (first, words) = first_word(text, 0);
     match first.letter()? {
         Letter::Append => read_append(words, fits),
@@ -36,48 +54,33 @@ fn read_ended(line: &[u8], ended: bool) -> Result<Step, LineFault>
     }
 }
 
-fn is_ended(line: &[u8]) -> bool
-    ensures { result ≡ ended_line line.now }
-{
-    line.len() > 0 && line[line.len() - 1] == b'\n'
-}
-
-fn text_before_end(line: &[u8], ended: bool) -> &[u8]
-    requires { ended ≡ ended_line line.now }
-    ensures { result.now ≡ text_of line.now }
-{
-    if ended {
-        line.split_at(line.len() - 1).0
-    } else {
-        line
-    }
-}
-
-// An append: a ledger, and all that stands behind the second space as its text. `fits` says whether the line is ended and
-// no longer than a line may be, which decides only once each word has the form of its kind.
+// An append: a ledger, and all that stands behind the second space as its text.
 fn read_append(words: &[u8], fits: bool) -> Result<Step, LineFault>
     ensures { result ≡ read_append fits words.now }
 {
-    if words.len() == 0 {
+    if words.is_empty() {
         return Err(LineFault::Form { word: 0 });
     }
-    let (word, rest) = first_word(words.split_at(1).1, 1);
-    let ledger = word.number()?;
-    if rest.len() == 0 || !fits {
-        return Err(LineFault::Form { word: 0 });
+    let (word, rest) = first_word(&words[1..], 1);
+    append_text(LedgerId(word.number()?), rest, fits)
+}
+
+// The text of an append stands behind its ledger, with a space before it.
+fn append_text(ledger: LedgerId, rest: &[u8], fits: bool) -> Result<Step, LineFault>
+    ensures { result ≡ append_text fits ledger.0 rest.now }
+{
+    match rest {
+        [_, text @ ..] if fits => {
+            in_range(ledger.is_in_range(), 1)?;
+            let word = Word {
+                kind: WordKind::Text(text),
+                place: 2,
+            };
+            let body = word.body()?;
+            Ok(Step::Append { ledger, body })
+        }
+        _ => Err(LineFault::Form { word: 0 }),
     }
-    if !is_ledger(ledger) {
-        return Err(LineFault::Range { word: 1 });
-    }
-    let text = Word::Text {
-        text: rest.split_at(1).1,
-        place: 2,
-    };
-    let body = text.body()?;
-    Ok(Step::Append {
-        ledger: LedgerId(ledger),
-        body,
-    })
 }
 
 // A step whose words are all numbers.
@@ -86,71 +89,46 @@ fn read_numbers(letter: Letter, words: &[u8], fits: bool) -> Result<Step, LineFa
 {
     let numbers = Numbers::read(words)?;
     match numbers.step(letter) {
-        Some(step) if fits => match word_out_of_range(&step) {
-            0 => Ok(step),
-            word => Err(LineFault::Range { word }),
-        },
+        Some(step) if fits => {
+            check_ranges(&step)?;
+            Ok(step)
+        }
         _ => Err(LineFault::Form { word: 0 }),
     }
 }
 
-fn is_ledger(number: u32) -> bool
-    ensures { result ≡ is_ledger number }
-{
-    number >= 1 && number <= MAX_LEDGERS
-}
-
-fn is_recoverer(number: u32) -> bool
-    ensures { result ≡ is_recoverer number }
-{
-    number >= 1 && number <= MAX_RECOVERERS
-}
-
-// The first word that is out of its range, or 0. Numbers of ledgers and recoverers have one, all others are free.
-fn word_out_of_range(step: &Step) -> usize
-    ensures { result ≡ misses_range step.now }
+// Refuses the first word that is out of its range. Numbers of ledgers and recoverers have one, all others are free.
+fn check_ranges(step: &Step) -> Result<(), LineFault>
+    ensures { result ≡ ranges step.now }
 {
     match *step {
-        Step::Create { ledger, .. } => ledger_word(ledger, 1),
-        Step::Append { ledger, .. } => ledger_word(ledger, 1),
-        Step::Resend { ledger } => ledger_word(ledger, 1),
-        Step::ChangeEnsemble { ledger, .. } => ledger_word(ledger, 1),
-        Step::Close { ledger } => ledger_word(ledger, 1),
-        Step::Recover { recoverer, ledger } => match recoverer_word(recoverer) {
-            0 => ledger_word(ledger, 2),
-            word => word,
-        },
-        Step::AskAgain { recoverer } => recoverer_word(recoverer),
-        Step::Finish { recoverer } => recoverer_word(recoverer),
-        Step::Deliver { .. } => 0,
-        Step::Duplicate { .. } => 0,
-        Step::Discard { .. } => 0,
-        Step::Stop { .. } => 0,
-        Step::Start { .. } => 0,
+        Step::Create { ledger, .. }
+        | Step::Append { ledger, .. }
+        | Step::Resend { ledger }
+        | Step::ChangeEnsemble { ledger, .. }
+        | Step::Close { ledger } => in_range(ledger.is_in_range(), 1),
+        Step::Recover { recoverer, ledger } => {
+            in_range(recoverer.is_in_range(), 1)?;
+            in_range(ledger.is_in_range(), 2)
+        }
+        Step::AskAgain { recoverer } | Step::Finish { recoverer } => {
+            in_range(recoverer.is_in_range(), 1)
+        }
+        Step::Deliver { .. }
+        | Step::Duplicate { .. }
+        | Step::Discard { .. }
+        | Step::Stop { .. }
+        | Step::Start { .. } => Ok(()),
     }
 }
 
-// The word, where the ledger that it names is out of range.
-fn ledger_word(ledger: LedgerId, word: usize) -> usize
-    ensures { result ≡ ledger_word ledger word }
+// Refuses the word, unless it is in its range.
+fn in_range(holds: bool, word: usize) -> Result<(), LineFault>
+    ensures { result ≡ in_range holds word }
 {
-    if is_ledger(ledger.0) { 0 } else { word }
-}
-
-fn recoverer_word(recoverer: RecovererId) -> usize
-    ensures { result ≡ recoverer_word recoverer }
-{
-    if is_recoverer(recoverer.0) { 0 } else { 1 }
-}
-
-// The letter that a line begins with, whatever else is wrong with it.
-pub fn line_letter(line: &[u8]) -> Option<Letter>
-    ensures { result ≡ first_letter line.now }
-{
-    let text = text_before_end(line, is_ended(line));
-    let (first, _) = first_word(text, 0);
-    match first.letter() {
-        Ok(letter) => Some(letter),
-        Err(_) => None,
+    if holds {
+        Ok(())
+    } else {
+        Err(LineFault::Range { word })
     }
 }

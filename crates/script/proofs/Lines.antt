@@ -1,69 +1,78 @@
 -- An input, line by line.
-use Rattle.std.proofs.Common.{◌≡◌, ℕ, ◌+◌, ◌-◌, ◌<◌, Bool, true, false, cond, eqb, List, [], ◌∷◌, ◌++◌, length, take, drop, sym, refl, ap, ◌∙◌, one-add, arith}
-use Rattle.std.proofs.lemmas.List.{append_assoc, nil_from_length, take_at, length-drop}
-use Rattle.std.proofs.lemmas.Bool.Decides.{nat_tests}
-use Rattle.script.specs.Printing.{over}
-use Rattle.script.specs.Playing.{counted, line_bytes, totals_bytes}
-use Rattle.script.specs.Inputs.{onto_line, lines_of, line_length, all_counted, all_bytes}
+use Rattle.std.proofs.Common.{◌≡◌, ℕ, zero, suc, ◌+◌, ◌<◌, min, Bool, eqb, List, [], ◌∷◌, ◌++◌, length, get_or, drop, Option, Some, subst, refl, sym, ap, ◌∙◌, arith}
+use Rattle.std.specs.Fn.{CalledAt, ComputesKey}
+use Rattle.std.specs.Iterator.{Yields}
+use Rattle.std.specs.List.{IsFirstMatchOrLen}
+use Rattle.std.specs.Option.{MatchOption}
+use Rattle.std.specs.declared.slice.SplitInclusive.{SplitInclusive}
+use Rattle.std.specs.Slice.Iter.{split_inclusive_rest, split_inclusive_callee}
+use Rattle.std.proofs.lemmas.Bool.{cond-true, cond-false}
+use Rattle.std.proofs.lemmas.Fn.{always_returns_same}
+use Rattle.std.proofs.lemmas.Iterator.{YieldsList}
+use Rattle.std.proofs.lemmas.Iterator.Consumers.{YieldsList-at}
+use Rattle.std.proofs.lemmas.Iterator.Splits.{YieldsList-from_shown_while}
+use Rattle.std.proofs.lemmas.List.{append_assoc, at_drop_more, nil_from_length}
+use denote.Param.Members.{Mut}
+use denote.Ref.{Bor}
+use Rattle.script.specs.Playing.{counted, line_bytes}
+use Rattle.script.specs.Inputs.{onto_line, lines_of, all_bytes, all_counted}
 use Rattle.script.specs.declared.players.Player.{Player}
 
--- what was written into the front of memory is found there; n is its length
-pub front_over : (s memory after : List ℕ) (n : ℕ) → n ≡ length s → after ≡ over s memory → take (n - 0) after ≡ s
-front_over s memory after n long is = ap (take (n - 0)) is ∙ take_at s (drop (length s) memory) (n - 0) (omega arith)
+-- The bytes up to and with the first 10, or all of them where there is none, are the first line.
+first_line : (line rest : List ℕ) (i : ℕ) → 0 < length line → length line ≡ min (i + 1) (length (line ++ rest))
+    → IsFirstMatchOrLen (λ b. eqb b 10) (line ++ rest) i → lines_of (line ++ rest) ≡ line ∷ lines_of rest
+first_line [] rest i some long first = absurd (omega arith)
+first_line (b ∷ []) rest zero some long first = cond-true (eqb b 10) _ _ (first.1 (omega arith) 0)
+first_line (b ∷ []) [] (suc i) some long first = cond-false (eqb b 10) _ _ (first.0 0 0 (omega arith) (omega arith))
+first_line (b ∷ []) (c ∷ cs) (suc i) some long first = absurd (omega arith)
+first_line (b ∷ c ∷ cs) rest zero some long first = absurd (omega arith)
+first_line (b ∷ c ∷ cs) rest (suc i) some long first =
+    cond-false (eqb b 10) _ _ (first.0 0 0 (omega arith) (omega arith))
+    ∙ ap (onto_line b)
+    (first_line (c ∷ cs) rest i (omega arith) (omega arith)
+    (λ k d low high. first.0 (suc k) d (omega arith) (omega arith), λ within d. first.1 (omega arith) d))
 
--- a byte that is no end belongs to the line behind it, if there is one
-onto_first_line : (b : ℕ) (bs : List ℕ)
-    → (0 < length bs → lines_of bs ≡ take (line_length bs) bs ∷ lines_of (drop (line_length bs) bs))
-    → onto_line b (lines_of bs) ≡ take (1 + line_length bs) (b ∷ bs) ∷ lines_of (drop (1 + line_length bs) (b ∷ bs))
-onto_first_line b [] ih = refl
-onto_first_line b (x ∷ xs) ih = rw (one-add (line_length (x ∷ xs))) (ap (onto_line b) (ih (omega arith)))
+module _ {F : Type 0} (g : Mut F (Bor ℕ × Unit {0}) Bool) where
+  -- what one call of `next` does to a `split_inclusive`
+  abbrev pub cuts : SplitInclusive ℕ F → Option (Bor (List ℕ)) → SplitInclusive ℕ F → Type 0
+  cuts s r t =
+      MatchOption r ((length (split_inclusive_rest s) ≡ 0) × (t ≡ s))
+      (λ x. (split_inclusive_rest s ≡ x.now ++ split_inclusive_rest t)
+      × ((i : ℕ) × (length x.now ≡ min (i + 1) (length (split_inclusive_rest s)))
+      × ((p : ℕ → Bool) → ComputesKey g p (split_inclusive_callee s) → ComputesKey g p (split_inclusive_callee t) × IsFirstMatchOrLen p (split_inclusive_rest s) i))
+      × (0 < length (split_inclusive_rest s)))
 
-first_byte : (t : Bool) (b : ℕ) (bs : List ℕ)
-    → (0 < length bs → lines_of bs ≡ take (line_length bs) bs ∷ lines_of (drop (line_length bs) bs))
-    → cond t ((b ∷ []) ∷ lines_of bs) (onto_line b (lines_of bs))
-    ≡ take (cond t 1 (1 + line_length bs)) (b ∷ bs) ∷ lines_of (drop (cond t 1 (1 + line_length bs)) (b ∷ bs))
-first_byte true b bs ih = refl
-first_byte false b bs ih = onto_first_line b bs ih
+  line_turn : (s : SplitInclusive ℕ F) (x : Bor (List ℕ)) (t : SplitInclusive ℕ F) → ComputesKey g (λ b. eqb b 10) (split_inclusive_callee s) → cuts s (Some x) t
+      → ComputesKey g (λ b. eqb b 10) (split_inclusive_callee t) × (lines_of (split_inclusive_rest s) ≡ x.now ∷ lines_of (split_inclusive_rest t))
+  line_turn s x t test turn =
+      let said = turn.1.2 (λ b. eqb b 10) test in
+      let parts = turn.0 in
+      let some : 0 < length x.now = omega (arith, turn.1.1, turn.2) in
+      (said.0, ap lines_of parts ∙ first_line x.now (split_inclusive_rest t) turn.1.0 some (turn.1.1 ∙ ap (λ l. min (turn.1.0 + 1) (length l)) parts) (subst (λ l. IsFirstMatchOrLen (λ b. eqb b 10) l turn.1.0) parts said.1))
 
--- the lines of an input are its first one and those behind it
-pub lines_first : (l : List ℕ) → 0 < length l → lines_of l ≡ take (line_length l) l ∷ lines_of (drop (line_length l) l)
-lines_first [] some = absurd (omega arith)
-lines_first (b ∷ bs) some = first_byte (eqb b 10) b bs (lines_first bs)
+  -- What `split_inclusive` at the bytes 10 yields: the lines of the input.
+  pub lines_yielded : {s t : SplitInclusive ℕ F} {f : F} (seen : List (Bor (List ℕ))) (u : SplitInclusive ℕ F) → Yields cuts t seen u → t ≡ s
+      → (input : List ℕ) → split_inclusive_rest s ≡ input → split_inclusive_callee s ≡ f
+      → ((x : ℕ) (b : Bool) (q : F) → CalledAt g f x b q → (q ≡ f) × (b ≡ eqb x 10)) → YieldsList cuts (λ x. x.now) t (lines_of input)
+  lines_yielded {s = s} {t} {f} seen u run starts input rest closure tests =
+      let computes = always_returns_same g (λ a r. r ≡ eqb a.0.now 10) f (λ a r q k. let m = tests a.0.now r q (record { shown = a.0; shows = refl; called = k }) in (m.1, m.0)) in
+      YieldsList-at starts
+      (subst (YieldsList cuts (λ x. x.now) s) (ap lines_of rest)
+      (YieldsList-from_shown_while cuts (λ x. x.now) (λ v. lines_of (split_inclusive_rest v)) (λ v. ComputesKey g (λ b. eqb b 10) (split_inclusive_callee v))
+      (λ v w h k. ap (λ l. length (lines_of l)) (nil_from_length _ k.0)) line_turn s (subst (ComputesKey g (λ b. eqb b 10)) (sym closure) computes)))
 
--- a first line has a byte
-pub line_some : (l : List ℕ) → 0 < length l → 0 < line_length l
-line_some [] some = absurd (omega arith)
-line_some (b ∷ bs) some = grind (arith, nat_tests)
+-- One turn of playing: line i of the input is printed and counted, and the lines behind it are left.
+module _ (p : Player) (lines : List (List ℕ)) (i : ℕ) (l : List ℕ) (here : (i < length lines) × (l ≡ get_or lines i l)) where
+  pub turn_bytes : (before after : List ℕ) (p' : Player) → p' ≡ counted p l → after ≡ before ++ line_bytes p l
+      → after ++ all_bytes p' (drop (i + 1) lines) ≡ before ++ all_bytes p (drop i lines)
+  turn_bytes before after p' counts is =
+      let rest = drop (i + 1) lines in
+      ap (λ t. t ++ all_bytes p' rest) is ∙ append_assoc before (line_bytes p l) (all_bytes p' rest)
+      ∙ ap (λ q. before ++ (line_bytes p l ++ all_bytes q rest)) counts
+      ∙ ap (λ v. before ++ (line_bytes p v ++ all_bytes (counted p v) rest)) here.1
+      ∙ ap (λ t. before ++ t) (sym (at_drop_more (all_bytes p) lines i l here.0))
 
--- One turn of playing: the first line of what is left is printed and counted.
-module _ (p : Player) (left line rest : List ℕ) (n : ℕ) (some : 0 < length left) (long : n ≡ line_length left) where
-  pub fewer_left : rest ≡ drop n left → length rest < length left
-  fewer_left is = omega (arith, line_some left some, ap length is ∙ length-drop n left)
-
-  left_lines : line ≡ take n left → rest ≡ drop n left → lines_of left ≡ line ∷ lines_of rest
-  left_lines front back =
-      lines_first left some ∙ ap (λ k. take k left ∷ lines_of (drop k left)) (sym long)
-      ∙ ap (λ l. l ∷ lines_of (drop n left)) (sym front) ∙ ap (λ l. line ∷ lines_of l) (sym back)
-
-  pub turn_bytes : (before after : List ℕ) (p' : Player) → line ≡ take n left → rest ≡ drop n left → p' ≡ counted p line
-      → after ≡ before ++ line_bytes p line → after ++ all_bytes p' (lines_of rest) ≡ before ++ all_bytes p (lines_of left)
-  turn_bytes before after p' front back counts is =
-      ap (λ l. l ++ all_bytes p' (lines_of rest)) is ∙ append_assoc before (line_bytes p line) (all_bytes p' (lines_of rest))
-      ∙ ap (λ q. before ++ (line_bytes p line ++ all_bytes q (lines_of rest))) counts
-      ∙ ap (λ ls. before ++ all_bytes p ls) (sym (left_lines front back))
-
-  pub turn_counts : (p' : Player) → line ≡ take n left → rest ≡ drop n left → p' ≡ counted p line
-      → all_counted p' (lines_of rest) ≡ all_counted p (lines_of left)
-  turn_counts p' front back counts =
-      ap (λ q. all_counted q (lines_of rest)) counts ∙ ap (all_counted p) (sym (left_lines front back))
-
--- The end: no line is left.
-module _ (p : Player) (left : List ℕ) (none : length left ≡ 0) where
-  no_lines : lines_of left ≡ []
-  no_lines = ap lines_of (nil_from_length left none)
-
-  pub end_bytes : all_bytes p (lines_of left) ≡ totals_bytes p
-  end_bytes = ap (all_bytes p) no_lines
-
-  pub end_counts : all_counted p (lines_of left) ≡ p
-  end_counts = ap (all_counted p) no_lines
+  pub turn_counts : (p' : Player) → p' ≡ counted p l → all_counted p' (drop (i + 1) lines) ≡ all_counted p (drop i lines)
+  turn_counts p' counts =
+      ap (λ q. all_counted q (drop (i + 1) lines)) counts ∙ ap (λ v. all_counted (counted p v) (drop (i + 1) lines)) here.1
+      ∙ sym (at_drop_more (all_counted p) lines i l here.0)

@@ -1,5 +1,5 @@
 -- A whole input and all that is printed for it.
-use Rattle.std.specs.Prelude.{◌≡◌, ℕ, ◌+◌, Bool, cond, List, [], ◌∷◌, ◌++◌, length, vec_items, codes, ◌==◌, nat_lt}
+use Rattle.std.specs.Prelude.{◌≡◌, ℕ, Bool, cond, List, [], ◌∷◌, ◌++◌, length, vec_items, codes, ◌==◌, nat_lt}
 use Rattle.script.specs.Playing.{new_player, counted, line_bytes, totals_bytes}
 use Rattle.script.specs.declared.inputs.Played.{Played}
 use Rattle.script.specs.declared.players.Player.{Player}
@@ -12,11 +12,6 @@ onto_line b (l ∷ ls) = (b ∷ l) ∷ ls
 abbrev pub lines_of : List ℕ → List (List ℕ)
 lines_of [] = []
 lines_of (b ∷ bs) = cond (b == 10) ((b ∷ []) ∷ lines_of bs) (onto_line b (lines_of bs))
-
--- how many bytes the first of them has
-abbrev pub line_length : List ℕ → ℕ
-line_length [] = 0
-line_length (b ∷ bs) = cond (b == 10) 1 (1 + line_length bs)
 
 -- the counts after lines
 abbrev pub all_counted : Player → List (List ℕ) → Player

@@ -1,7 +1,7 @@
 -- A script, line by line.
 use Rattle.std.specs.Prelude.{◌≡◌, ℕ, ◌+◌, Bool, cond, List, length, ℤ, is_err, Ok, Err, Result, nat_le, nat_lt}
 use Rattle.ledgers.specs.declared.steps.Step.{Step}
-use Rattle.ledgers.specs.declared.steps.Step.TheVariants.{Create, Append, Resend, ChangeEnsemble, Close, Recover, AskAgain, Finish, Deliver, Duplicate, Discard, Stop, Start}
+use Rattle.ledgers.specs.declared.steps.Step.TheVariants.{Create, Recover}
 use Rattle.lines.specs.Reading.{first_letter, read_line}
 use Rattle.words.specs.declared.faults.LineFault.{LineFault}
 use Rattle.script.specs.Printing.{answer_line, totals_line, over}
@@ -13,18 +13,8 @@ use Rattle.script.specs.declared.refusals.Refusal.TheVariants.{Output, Line, Abs
 -- the recoverer of a recovery idle.
 abbrev pub absent_word : Step → ℕ
 absent_word (Create l e w k bs) = 5
-absent_word (Append l b) = 1
-absent_word (Resend l) = 1
-absent_word (ChangeEnsemble l p b) = 1
-absent_word (Close l) = 1
 absent_word (Recover r l) = 2
-absent_word (AskAgain r) = 1
-absent_word (Finish r) = 1
-absent_word (Deliver m) = 1
-absent_word (Duplicate m) = 1
-absent_word (Discard m) = 1
-absent_word (Stop b) = 1
-absent_word (Start b) = 1
+absent_word s = 1
 
 abbrev answer_step : Result Step LineFault → Result ℤ Refusal
 answer_step (Ok s) = Err (Absent (absent_word s))

@@ -1,10 +1,11 @@
 // A script that is being played: how many lines it has had, and how many of them were refused.
 ghost use Rattle.std.specs.Prelude.{◌≡◌, ◌≤◌, length};
 ghost use Rattle.script.specs.Printing.{over};
-ghost use Rattle.script.specs.Playing.{absent_word, answer, one_more, new_player, counted, line_bytes, LinePlayed, TotalsPrinted};
+ghost use Rattle.script.specs.Playing.{absent_word, answer, new_player, counted, line_bytes, totals_bytes, LinePlayed, TotalsPrinted};
 
 use crate::printing::{OUTPUT_BYTES, print_answer, print_totals};
 use crate::refusals::Refusal;
+use arrayvec::ArrayString;
 use ledgers::steps::Step;
 use lines::{line_letter, read_line};
 
@@ -33,7 +34,7 @@ impl Player {
         if out.len() < OUTPUT_BYTES {
             return Err(Refusal::Output);
         }
-        Ok(self.print_line(line, out))
+        Ok(put_front(out, self.play(line).as_str()))
     }
 
     // Writes the last line of a script, with the counts.
@@ -43,31 +44,39 @@ impl Player {
         if out.len() < OUTPUT_BYTES {
             return Err(Refusal::Output);
         }
-        Ok(print_totals(out, self.lines, self.refused))
+        Ok(put_front(out, self.totals().as_str()))
     }
 
-    // The same as `play_line`, where there is room for the answer.
-    pub(crate) fn print_line(&mut self, line: &[u8], out: &mut [u8]) -> usize
-        requires { 128 ≤ length out.old }
-        ensures end { result ≡ length (line_bytes self.old line.now) }
-        ensures bound { result ≤ 128 }
+    // Plays one line, whose answer is returned.
+    pub(crate) fn play(&mut self, line: &[u8]) -> ArrayString<OUTPUT_BYTES>
         ensures player { self.new ≡ counted self.old line.now }
-        ensures out { out.new ≡ over (line_bytes self.old line.now) out.old }
+        ensures answer { result.bytes ≡ line_bytes self.old line.now }
     {
-        let result = answer_line(line);
-        self.lines = count_one(self.lines);
-        if result.is_err() {
-            self.refused = count_one(self.refused);
+        let outcome = answer_line(line);
+        self.lines = self.lines.saturating_add(1);
+        if outcome.is_err() {
+            self.refused = self.refused.saturating_add(1);
         }
-        print_answer(out, self.lines, line_letter(line), result)
+        print_answer(self.lines, line_letter(line), outcome)
+    }
+
+    // The last line of a script, with the counts.
+    pub(crate) fn totals(&self) -> ArrayString<OUTPUT_BYTES>
+        ensures { result.bytes ≡ totals_bytes self.now }
+    {
+        print_totals(self.lines, self.refused)
     }
 }
 
-// A count goes up by one, and stays at the highest number that there is.
-fn count_one(count: u64) -> u64
-    ensures { result ≡ one_more count }
+// Writes a text over the front of `out`, and returns its length.
+fn put_front(out: &mut [u8], text: &str) -> usize
+    requires { length text.now ≤ length out.old }
+    ensures length { result ≡ length text.now }
+    ensures after { out.new ≡ over text.now out.old }
 {
-    if count < u64::MAX { count + 1 } else { count }
+    let (front, _) = out.split_at_mut(text.len());
+    front.copy_from_slice(text.as_bytes());
+    text.len()
 }
 
 // What a line is answered: what it names is not there, if it is a step at all.
@@ -88,16 +97,6 @@ fn first_absent(step: &Step) -> usize
     match *step {
         Step::Create { .. } => 5,
         Step::Recover { .. } => 2,
-        Step::Append { .. } => 1,
-        Step::Resend { .. } => 1,
-        Step::ChangeEnsemble { .. } => 1,
-        Step::Close { .. } => 1,
-        Step::AskAgain { .. } => 1,
-        Step::Finish { .. } => 1,
-        Step::Deliver { .. } => 1,
-        Step::Duplicate { .. } => 1,
-        Step::Discard { .. } => 1,
-        Step::Stop { .. } => 1,
-        Step::Start { .. } => 1,
+        _ => 1,
     }
 }

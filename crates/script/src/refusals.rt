@@ -5,7 +5,7 @@ ghost use Rattle.script.specs.declared.refusals.Refusal.TheVariants.{Line as of_
 
 use words::LineFault;
 
-#[derive(Clone, Copy)]
+#[derive(Clone, Copy, PartialEq, Eq)]
 pub enum Refusal {
     // The memory that was lent for the answer is too small for it.
     Output,
@@ -15,18 +15,20 @@ pub enum Refusal {
     Absent { word: usize },
 }
 
-impl Refusal {
-    // The number that it is printed with.
-    pub fn number(self) -> u8
-        ensures { result ≡ refusal_number self }
-    {
-        match self {
+// The number that a refusal is printed with.
+impl From<Refusal> for u8 {
+    ghost from_gives = { λ refusal number. number ≡ refusal_number refusal };
+
+    fn from(refusal: Refusal) -> u8 {
+        match refusal {
             Refusal::Output => 1,
-            Refusal::Line(fault) => fault.number(),
+            Refusal::Line(fault) => u8::from(fault),
             Refusal::Absent { .. } => 4,
         }
     }
+}
 
+impl Refusal {
     // The word that it is printed with.
     pub fn word(self) -> usize
         ensures { result ≡ refusal_word self }

@@ -1,6 +1,6 @@
 -- The words of a line.
-use Rattle.std.specs.Prelude.{ℕ, Bool, true, false, cond, not, ◌&&◌, ◌||◌, List, [], ◌∷◌, length, take, drop, Some, None, Ok, Err, Option, Result, ◌==◌, nat_lt, slice_index}
-use Rattle.std.specs.List.{prefix_len}
+use Rattle.std.specs.Prelude.{ℕ, Bool, cond, not, ◌&&◌, List, length, take, drop, Some, None, Ok, Err, Option, Result, ◌==◌, nat_le, slice_index}
+use Rattle.std.specs.List.{list_all, prefix_len}
 use Rattle.ledgers.specs.Bodies.{made_body}
 use Rattle.ledgers.specs.declared.bodies.Body.{Body}
 use Rattle.words.specs.Letters.{letter_of}
@@ -9,7 +9,8 @@ use Rattle.words.specs.declared.faults.LineFault.{LineFault}
 use Rattle.words.specs.declared.faults.LineFault.TheVariants.{Form, Range}
 use Rattle.words.specs.declared.letters.Letter.{Letter}
 use Rattle.words.specs.declared.words.Word.{Word}
-use Rattle.words.specs.declared.words.Word.TheVariants as word
+use Rattle.words.specs.declared.words.WordKind.{WordKind}
+use Rattle.words.specs.declared.words.WordKind.TheVariants as kind
 
 -- What a word is, by value: the code's words refer to parts of the line.
 pub data Part : Type 0 where
@@ -17,10 +18,13 @@ pub data Part : Type 0 where
   number : (digits : List ℕ) (value place : ℕ) → Part
   text : (bytes : List ℕ) (place : ℕ) → Part
 
+abbrev pub part_of : WordKind → ℕ → Part
+part_of (kind.Letter b) p = letter b p
+part_of (kind.Number ds n) p = number ds.now n p
+part_of (kind.Text bs) p = text bs.now p
+
 abbrev pub meant : Word → Part
-meant (word.Letter b p) = letter b p
-meant (word.Number ds n p) = number ds.now n p
-meant (word.Text bs p) = text bs.now p
+meant w = part_of w.kind w.place
 
 -- a number where the bytes write one
 abbrev pub number_or_text : ℕ → List ℕ → Option ℕ → Part
@@ -58,8 +62,7 @@ number_in (text bs p) = Err (Form p)
 
 -- from the space to the tilde
 abbrev pub printable : List ℕ → Bool
-printable [] = true
-printable (b ∷ bs) = cond (nat_lt b 32 || nat_lt 126 b) false (printable bs)
+printable bs = list_all (λ b. nat_le 32 b && nat_le b 126) bs
 
 abbrev pub body_or_range : ℕ → Bool → Option Body → Result Body LineFault
 body_or_range p ok None = Err (Range p)

@@ -3,7 +3,7 @@
 ghost use Rattle.std.specs.Prelude.{◌≡◌};
 ghost use Rattle.words.specs.Faults.{line_number, line_word};
 
-#[derive(Clone, Copy)]
+#[derive(Clone, Copy, PartialEq, Eq)]
 pub enum LineFault {
     // It is not written as a line.
     Form { word: usize },
@@ -11,24 +11,25 @@ pub enum LineFault {
     Range { word: usize },
 }
 
-impl LineFault {
-    // The number that a refusal is printed with.
-    pub fn number(self) -> u8
-        ensures { result ≡ line_number self }
-    {
-        match self {
+// The number that a refusal is printed with.
+impl From<LineFault> for u8 {
+    ghost from_gives = { λ fault number. number ≡ line_number fault };
+
+    fn from(fault: LineFault) -> u8 {
+        match fault {
             LineFault::Form { .. } => 2,
             LineFault::Range { .. } => 3,
         }
     }
+}
 
+impl LineFault {
     // The word that a refusal is printed with.
     pub fn word(self) -> usize
         ensures { result ≡ line_word self }
     {
         match self {
-            LineFault::Form { word } => word,
-            LineFault::Range { word } => word,
+            LineFault::Form { word } | LineFault::Range { word } => word,
         }
     }
 }

@@ -1,8 +1,9 @@
 // The thirteen letters that a line can begin with, by the step that each asks for.
 ghost use Rattle.std.specs.Prelude.{◌≡◌};
+ghost use Rattle.std.specs.Result.{result_ok};
 ghost use Rattle.words.specs.Letters.{byte_of, letter_of};
 
-#[derive(Clone, Copy)]
+#[derive(Clone, Copy, PartialEq, Eq)]
 pub enum Letter {
     Create,
     Append,
@@ -19,34 +20,42 @@ pub enum Letter {
     Start,
 }
 
-impl Letter {
-    // The letter that a byte is, if it is one.
-    pub fn from_byte(byte: u8) -> Option<Letter>
-        ensures { result ≡ letter_of byte }
-    {
+// What a byte that is no letter is refused with.
+#[derive(Clone, Copy, PartialEq, Eq)]
+pub struct UnknownLetter;
+
+// The letter that a byte is, if it is one.
+impl TryFrom<u8> for Letter {
+    type Error = UnknownLetter;
+
+    ghost try_from_gives = { λ byte r. result_ok r ≡ letter_of byte };
+
+    fn try_from(byte: u8) -> Result<Letter, UnknownLetter> {
         match byte {
-            b'C' => Some(Letter::Create),
-            b'A' => Some(Letter::Append),
-            b'R' => Some(Letter::Resend),
-            b'E' => Some(Letter::ChangeEnsemble),
-            b'Z' => Some(Letter::Close),
-            b'F' => Some(Letter::Recover),
-            b'G' => Some(Letter::AskAgain),
-            b'H' => Some(Letter::Finish),
-            b'D' => Some(Letter::Deliver),
-            b'K' => Some(Letter::Duplicate),
-            b'X' => Some(Letter::Discard),
-            b'S' => Some(Letter::Stop),
-            b'T' => Some(Letter::Start),
-            _ => None,
+            b'C' => Ok(Letter::Create),
+            b'A' => Ok(Letter::Append),
+            b'R' => Ok(Letter::Resend),
+            b'E' => Ok(Letter::ChangeEnsemble),
+            b'Z' => Ok(Letter::Close),
+            b'F' => Ok(Letter::Recover),
+            b'G' => Ok(Letter::AskAgain),
+            b'H' => Ok(Letter::Finish),
+            b'D' => Ok(Letter::Deliver),
+            b'K' => Ok(Letter::Duplicate),
+            b'X' => Ok(Letter::Discard),
+            b'S' => Ok(Letter::Stop),
+            b'T' => Ok(Letter::Start),
+            _ => Err(UnknownLetter),
         }
     }
+}
 
-    // The byte that it is written as.
-    pub fn byte(self) -> u8
-        ensures { result ≡ byte_of self }
-    {
-        match self {
+// The byte that a letter is written as.
+impl From<Letter> for u8 {
+    ghost from_gives = { λ letter byte. byte ≡ byte_of letter };
+
+    fn from(letter: Letter) -> u8 {
+        match letter {
             Letter::Create => b'C',
             Letter::Append => b'A',
             Letter::Resend => b'R',

@@ -9,5 +9,5 @@ pub mod numerals;
 pub mod words;
 
 pub use faults::LineFault;
-pub use letters::Letter;
-pub use words::{Word, first_word};
+pub use letters::{Letter, UnknownLetter};
+pub use words::{Word, WordKind, first_word};

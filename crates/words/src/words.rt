@@ -9,23 +9,19 @@ use crate::numerals::read_number;
 use ledgers::bodies::Body;
 
 #[derive(Clone, Copy)]
-pub enum Word<'a> {
+pub struct Word<'a> {
+    pub kind: WordKind<'a>,
+    pub place: usize,
+}
+
+#[derive(Clone, Copy)]
+pub enum WordKind<'a> {
     // One byte, in front of the line.
-    Letter {
-        letter: u8,
-        place: usize,
-    },
+    Letter(u8),
     // A number, with the digits that write it.
-    Number {
-        digits: &'a [u8],
-        value: u32,
-        place: usize,
-    },
+    Number { digits: &'a [u8], value: u32 },
     // Any other bytes.
-    Text {
-        text: &'a [u8],
-        place: usize,
-    },
+    Text(&'a [u8]),
 }
 
 impl<'a> Word<'a> {
@@ -33,33 +29,22 @@ impl<'a> Word<'a> {
     pub fn new(bytes: &'a [u8], place: usize) -> Word<'a>
         ensures { meant result ≡ word_at place bytes.now }
     {
-        if place == 0 && bytes.len() == 1 {
-            return Word::Letter {
-                letter: bytes[0],
-                place,
-            };
-        }
-        match read_number(bytes) {
-            Some(value) => Word::Number {
-                digits: bytes,
-                value,
-                place,
-            },
-            None => Word::Text { text: bytes, place },
-        }
+        let kind = match (bytes, read_number(bytes)) {
+            ([letter], _) if place == 0 => WordKind::Letter(*letter),
+            (digits, Some(value)) => WordKind::Number { digits, value },
+            (text, None) => WordKind::Text(text),
+        };
+        Word { kind, place }
     }
 
     // The letter that it is. Any other word has not the form of one.
     pub fn letter(self) -> Result<Letter, LineFault>
         ensures { result ≡ letter_in (meant self.entry) }
     {
-        match self {
-            Word::Letter { letter, place } => match Letter::from_byte(letter) {
-                Some(known) => Ok(known),
-                None => Err(LineFault::Form { word: place }),
-            },
-            Word::Number { place, .. } => Err(LineFault::Form { word: place }),
-            Word::Text { place, .. } => Err(LineFault::Form { word: place }),
+        let fault = LineFault::Form { word: self.place };
+        match self.kind {
+            WordKind::Letter(letter) => Letter::try_from(letter).map_err(|_| fault),
+            WordKind::Number { .. } | WordKind::Text(_) => Err(fault),
         }
     }
 
@@ -67,10 +52,9 @@ impl<'a> Word<'a> {
     pub fn number(self) -> Result<u32, LineFault>
         ensures { result ≡ number_in (meant self.entry) }
     {
-        match self {
-            Word::Number { value, .. } => Ok(value),
-            Word::Letter { place, .. } => Err(LineFault::Form { word: place }),
-            Word::Text { place, .. } => Err(LineFault::Form { word: place }),
+        match self.kind {
+            WordKind::Number { value, .. } => Ok(value),
+            WordKind::Letter(_) | WordKind::Text(_) => Err(LineFault::Form { word: self.place }),
         }
     }
 
@@ -78,13 +62,13 @@ impl<'a> Word<'a> {
     pub fn body(self) -> Result<Body, LineFault>
         ensures { result ≡ body_in (meant self.entry) }
     {
-        match self {
-            Word::Text { text, place } => match Body::new(text) {
+        let word = self.place;
+        match self.kind {
+            WordKind::Text(text) => match Body::new(text) {
                 Some(body) if is_printable(text) => Ok(body),
-                _ => Err(LineFault::Range { word: place }),
+                _ => Err(LineFault::Range { word }),
             },
-            Word::Letter { place, .. } => Err(LineFault::Form { word: place }),
-            Word::Number { place, .. } => Err(LineFault::Form { word: place }),
+            WordKind::Letter(_) | WordKind::Number { .. } => Err(LineFault::Form { word }),
         }
     }
 }
@@ -93,12 +77,7 @@ impl<'a> Word<'a> {
 fn is_printable(text: &[u8]) -> bool
     ensures { result ≡ printable text.now }
 {
-    for byte in text {
-        if *byte < b' ' || *byte > b'~' {
-            return false;
-        }
-    }
-    true
+    text.iter().all(|byte| matches!(byte, b' '..=b'~'))
 }
 
 // How many bytes stand before the first space.
@@ -106,12 +85,7 @@ fn word_length(text: &[u8]) -> usize
     ensures value { result ≡ prefix_len inner text.now }
     ensures within { result ≤ length text.now }
 {
-    for (i, byte) in text.iter().enumerate() {
-        if *byte == b' ' {
-            return i;
-        }
-    }
-    text.len()
+    text.iter().take_while(|byte| **byte != b' ').count()
 }
 
 // The first word, at the place that it has in its line, and what follows it: nothing, or a space and what that parts.

@@ -1,12 +1,10 @@
-use Rattle.std.proofs.Common.{◌≡◌, ◌+◌, ◌≤◌, length}
-use Rattle.lines.specs.Numbers.{no_numbers, numbers_from, more_words}
+use Rattle.std.proofs.Common.{◌≡◌, drop, eqb, length}
+use Rattle.std.specs.List.{slice_split}
+use Rattle.lines.specs.Numbers.{no_numbers, numbers_from}
 use Rattle.lines.proofs.numbers.Numbers.read.Given as goal
 
--- each word has a byte of its own, its space, so that their count fits; and what is left gives the answer
-abbrev pub invariant-loop-left : goal.invariant-loop-left
-invariant-loop-left l =
-    (l.numbers.count + length l.left ≤ length l.words)
-    × (numbers_from l.numbers (more_words l.left) ≡ numbers_from no_numbers (more_words l.words))
-
-abbrev pub decreases-loop-left : goal.decreases-loop-left
-decreases-loop-left l = length l.left
+-- the words that were read are counted, and those that are left give the answer
+abbrev pub invariant-loop-word : goal.invariant-loop-word
+invariant-loop-word l =
+    let all = slice_split (λ b. eqb b 32) (drop 1 l.words) in
+    (l.numbers.count ≡ length l.yielded) × (numbers_from l.numbers (drop (length l.yielded) all) ≡ numbers_from no_numbers all)
