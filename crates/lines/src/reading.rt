@@ -6,7 +6,7 @@ ghost use Rattle.lines.specs.Reading.{ended, text_of, in_range, ranges, first_le
 use crate::numbers::Numbers;
 use ledgers::ids::LedgerId;
 use ledgers::steps::Step;
-use words::{Letter, LineFault, Word, WordKind, first_word};
+use words::{Letter, LineFault, Word, first_word};
 
 // With the byte 10 at its end.
 pub const MAX_LINE: usize = 80;
@@ -72,11 +72,7 @@ fn append_text(ledger: LedgerId, rest: &[u8], fits: bool) -> Result<Step, LineFa
     match rest {
         [_, text @ ..] if fits => {
             in_range(ledger.is_in_range(), 1)?;
-            let word = Word {
-                kind: WordKind::Text(text),
-                place: 2,
-            };
-            let body = word.body()?;
+            let body = Word::Text { text, place: 2 }.body()?;
             Ok(Step::Append { ledger, body })
         }
         _ => Err(LineFault::Form { word: 0 }),

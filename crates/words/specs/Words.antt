@@ -9,8 +9,7 @@ use Rattle.words.specs.declared.faults.LineFault.{LineFault}
 use Rattle.words.specs.declared.faults.LineFault.TheVariants.{Form, Range}
 use Rattle.words.specs.declared.letters.Letter.{Letter}
 use Rattle.words.specs.declared.words.Word.{Word}
-use Rattle.words.specs.declared.words.WordKind.{WordKind}
-use Rattle.words.specs.declared.words.WordKind.TheVariants as kind
+use Rattle.words.specs.declared.words.Word.TheVariants as word
 
 -- What a word is, by value: the code's words refer to parts of the line.
 pub data Part : Type 0 where
@@ -18,13 +17,10 @@ pub data Part : Type 0 where
   number : (digits : List ℕ) (value place : ℕ) → Part
   text : (bytes : List ℕ) (place : ℕ) → Part
 
-abbrev pub part_of : WordKind → ℕ → Part
-part_of (kind.Letter b) p = letter b p
-part_of (kind.Number ds n) p = number ds.now n p
-part_of (kind.Text bs) p = text bs.now p
-
 abbrev pub meant : Word → Part
-meant w = part_of w.kind w.place
+meant (word.Letter b p) = letter b p
+meant (word.Number ds n p) = number ds.now n p
+meant (word.Text bs p) = text bs.now p
 
 -- a number where the bytes write one
 abbrev pub number_or_text : ℕ → List ℕ → Option ℕ → Part

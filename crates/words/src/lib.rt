@@ -10,4 +10,4 @@ pub mod words;
 
 pub use faults::LineFault;
 pub use letters::{Letter, UnknownLetter};
-pub use words::{Word, WordKind, first_word};
+pub use words::{Word, first_word};

@@ -9,19 +9,23 @@ use crate::numerals::read_number;
 use ledgers::bodies::Body;
 
 #[derive(Clone, Copy)]
-pub struct Word<'a> {
-    pub kind: WordKind<'a>,
-    pub place: usize,
-}
-
-#[derive(Clone, Copy)]
-pub enum WordKind<'a> {
+pub enum Word<'a> {
     // One byte, in front of the line.
-    Letter(u8),
+    Letter {
+        letter: u8,
+        place: usize,
+    },
     // A number, with the digits that write it.
-    Number { digits: &'a [u8], value: u32 },
+    Number {
+        digits: &'a [u8],
+        value: u32,
+        place: usize,
+    },
     // Any other bytes.
-    Text(&'a [u8]),
+    Text {
+        text: &'a [u8],
+        place: usize,
+    },
 }
 
 impl<'a> Word<'a> {
@@ -29,22 +33,31 @@ impl<'a> Word<'a> {
     pub fn new(bytes: &'a [u8], place: usize) -> Word<'a>
         ensures { meant result ≡ word_at place bytes.now }
     {
-        let kind = match (bytes, read_number(bytes)) {
-            ([letter], _) if place == 0 => WordKind::Letter(*letter),
-            (digits, Some(value)) => WordKind::Number { digits, value },
-            (text, None) => WordKind::Text(text),
-        };
-        Word { kind, place }
+        match (bytes, read_number(bytes)) {
+            ([letter], _) if place == 0 => Word::Letter {
+                letter: *letter,
+                place,
+            },
+            (digits, Some(value)) => Word::Number {
+                digits,
+                value,
+                place,
+            },
+            (text, None) => Word::Text { text, place },
+        }
     }
 
     // The letter that it is. Any other word has not the form of one.
     pub fn letter(self) -> Result<Letter, LineFault>
         ensures { result ≡ letter_in (meant self.entry) }
     {
-        let fault = LineFault::Form { word: self.place };
-        match self.kind {
-            WordKind::Letter(letter) => Letter::try_from(letter).map_err(|_| fault),
-            WordKind::Number { .. } | WordKind::Text(_) => Err(fault),
+        match self {
+            Word::Letter { letter, place } => {
+                Letter::try_from(letter).map_err(|_| LineFault::Form { word: place })
+            }
+            Word::Number { place, .. } | Word::Text { place, .. } => {
+                Err(LineFault::Form { word: place })
+            }
         }
     }
 
@@ -52,9 +65,11 @@ impl<'a> Word<'a> {
     pub fn number(self) -> Result<u32, LineFault>
         ensures { result ≡ number_in (meant self.entry) }
     {
-        match self.kind {
-            WordKind::Number { value, .. } => Ok(value),
-            WordKind::Letter(_) | WordKind::Text(_) => Err(LineFault::Form { word: self.place }),
+        match self {
+            Word::Number { value, .. } => Ok(value),
+            Word::Letter { place, .. } | Word::Text { place, .. } => {
+                Err(LineFault::Form { word: place })
+            }
         }
     }
 
@@ -62,13 +77,14 @@ impl<'a> Word<'a> {
     pub fn body(self) -> Result<Body, LineFault>
         ensures { result ≡ body_in (meant self.entry) }
     {
-        let word = self.place;
-        match self.kind {
-            WordKind::Text(text) => match Body::new(text) {
+        match self {
+            Word::Text { text, place } => match Body::new(text) {
                 Some(body) if is_printable(text) => Ok(body),
-                _ => Err(LineFault::Range { word }),
+                _ => Err(LineFault::Range { word: place }),
             },
-            WordKind::Letter(_) | WordKind::Number { .. } => Err(LineFault::Form { word }),
+            Word::Letter { place, .. } | Word::Number { place, .. } => {
+                Err(LineFault::Form { word: place })
+            }
         }
     }
 }
