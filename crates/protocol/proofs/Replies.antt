@@ -1,7 +1,7 @@
 -- The delivery of a reply: what its writer or its recoverer becomes.
-use Rattle.std.proofs.Common.{◌≡◌, ℕ, suc, ◌+◌, ◌<◌, ◌≤◌, Bool, true, false, eqb, ltb, leb, List, [], ◌∷◌, length, get_or, Ok, Err, Result, sym, refl, ap, subst, inl, inr, arith}
+use Rattle.std.proofs.Common.{◌≡◌, ℕ, suc, ◌+◌, max, ◌<◌, ◌≤◌, Bool, true, false, eqb, ltb, leb, List, [], ◌∷◌, length, get_or, Ok, Err, Result, sym, refl, ap, subst, inl, inr, arith}
 use Rattle.std.specs.List.{AllByRecursion}
-use Rattle.std.proofs.lemmas.Bool.{and_parts, both_ways, true≢false, false≢true, cond_both, eqb-true, leb-true, cases_eq}
+use Rattle.std.proofs.lemmas.Bool.{and_parts, both_ways, true≢false, false≢true, cond_both, eqb-true, leb-true, cases_eq, cases_lt}
 use Rattle.ledgers.specs.Limits.{max_entries}
 use Rattle.ledgers.specs.Ids.{bookie_id, entry_id}
 use Rattle.ledgers.specs.declared.bodies.Body.{Body}
@@ -22,7 +22,7 @@ use Rattle.messages.specs.declared.metadata.LedgerState.{LedgerState}
 use Rattle.messages.specs.declared.metadata.LedgerState.TheVariants.{Open, InRecovery, Closed}
 use Rattle.messages.specs.declared.metadata.Metadata.{Metadata}
 use Rattle.protocol.specs.Writers.{Writer, is_made, is_shut_out, is_closed, is_writing, fenced_writer, marked_add, marked_adds, is_acknowledged, Front, confirmed, acknowledged, replied, reply_after}
-use Rattle.protocol.specs.Recoverers.{at_work, in_phase, read_on, write_back, higher, next, entry_marks, hits, fenced_on, heard_fenced, absent_on, heard_absent, written_on, heard_written, at_hand, while_fencing, while_reading, while_writing, heard_in, heard, asks_to, asks_in, asks, phase_number, heard_sends}
+use Rattle.protocol.specs.Recoverers.{at_work, in_phase, read_on, write_back, next, entry_marks, hits, fenced_on, heard_fenced, absent_on, heard_absent, written_on, heard_written, at_hand, while_fencing, while_reading, while_writing, heard_in, heard, asks_to, asks_in, asks, phase_number, heard_sends}
 use Rattle.protocol.specs.Clusters.{Cluster, writer_of, recoverer_of, ledger_of, with_recoverer}
 use Rattle.protocol.specs.Steps.{to_writer, to_recoverer}
 use Rattle.protocol.specs.declared.writers.WriterState.{WriterState}
@@ -216,9 +216,8 @@ module _ (x : World) (R : Recoverer) (w : WorkOk x R) where
   fenced_work : {x₀ : World} {rs : ℕ → Recoverer} {ms : List Message} → Inv x₀ x rs ms → (m : List Bool) (b : BookieId) (n : Lac)
       → n.0 ≤ (x.writer R.ledger.0).lac → WorkOk x (heard_fenced R m b n)
   fenced_work i m b n k =
-      fenced_on_work _ (higher R.settled.0 n.0)
-      (cond_both (ltb R.settled.0 n.0) n.0 R.settled.0 (λ v. Copied x R.ledger.0 v R.layout)
-      (λ _ e j. rw w.same (lac_copied i R.ledger.0 e (omega arith))) (λ _. w.below))
+      fenced_on_work _ (max R.settled.0 n.0)
+      (λ e j. elim (cases_lt e R.settled.0) [ inl z ↦ w.below e z | inr z ↦ rw w.same (lac_copied i R.ledger.0 e (omega arith)) ])
 
   -- a body was found
   found_work : (n : Lac) (body : Body) → Sent x R.ledger.0 R.settled.0 n.0 body → WorkOk x (write_back R n body)

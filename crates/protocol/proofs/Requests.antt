@@ -1,5 +1,6 @@
 -- The delivery of a request: what a bookie that answers has become, and that its reply is true.
 use Rattle.std.proofs.Common.{◌≡◌, ℕ, ◌≤◌, max, Bool, true, false, cond, not, ◌&&◌, ◌||◌, eqb, ◌⊎◌, List, [], ◌∷◌, ◌++◌, length, Some, None, Ok, Err, Option, Result, sym, refl, ap, ◌∙◌, subst, inl, inr, arith, length-set}
+use Rattle.std.specs.Option.{is_some}
 use Rattle.std.specs.List.{AllByRecursion}
 use Rattle.std.proofs.ByRecursion.{All-push}
 use Rattle.std.proofs.lemmas.List.{get_or-set_same}
@@ -18,7 +19,7 @@ use Rattle.messages.specs.declared.faults.BookieFault.{BookieFault}
 use Rattle.messages.specs.declared.faults.BookieFault.TheVariants as refused
 use Rattle.messages.specs.declared.messages.Message.{Message}
 use Rattle.messages.specs.declared.messages.Message.TheVariants.{Fence, RecoveryRead, Add, RecoveryAdd, Added, AddRefused, Refused}
-use Rattle.protocol.specs.Bookies.{Bookie, no_bookie, is_copy, find, is_there, holds, is_fenced, highest_lac, add_fits, add_answer, holding, add_after, fence_answer, fencing, fence_after, read_answer, recovery_read_answer}
+use Rattle.protocol.specs.Bookies.{Bookie, no_bookie, is_copy, find, holds, is_fenced, highest_lac, add_fits, add_answer, holding, add_after, fence_answer, fencing, fence_after, read_answer, recovery_read_answer}
 use Rattle.protocol.specs.Clusters.{Cluster, bookie_of, writer_of, with_bookie, send}
 use Rattle.protocol.specs.Steps.{unless_stopped, add_reply, recovery_add_reply, fence_reply, read_reply, served, act}
 use Rattle.protocol.proofs.Lists.{at_set, in_range, set_rel, number_rel, number_same, ledger_row}
@@ -28,12 +29,12 @@ use Rattle.protocol.proofs.Changes.{sent_inv, Grows, grows_same, bookies_later, 
 
 -- copies of a bookie -------------------------------------------------------------------------------------------------
 -- what is held is held with one copy more
-find_more : (hs : List Held) (h : Held) (l e : ℕ) → is_there (find hs l e) ≡ true → is_there (find (hs ++ (h ∷ [])) l e) ≡ true
+find_more : (hs : List Held) (h : Held) (l e : ℕ) → is_some (find hs l e) ≡ true → is_some (find (hs ++ (h ∷ [])) l e) ≡ true
 find_more [] h l e k = absurd (false≢true k)
 find_more (g ∷ hs) h l e k = one (find_more hs h l e) (is_copy g l e) k
   where
-    one : (is_there (find hs l e) ≡ true → is_there (find (hs ++ (h ∷ [])) l e) ≡ true) → (v : Bool)
-        → is_there (cond v (Some g) (find hs l e)) ≡ true → is_there (cond v (Some g) (find (hs ++ (h ∷ [])) l e)) ≡ true
+    one : (is_some (find hs l e) ≡ true → is_some (find (hs ++ (h ∷ [])) l e) ≡ true) → (v : Bool)
+        → is_some (cond v (Some g) (find hs l e)) ≡ true → is_some (cond v (Some g) (find (hs ++ (h ∷ [])) l e)) ≡ true
     one rest true k = refl
     one rest false k = rest k
 
@@ -42,12 +43,12 @@ same_number : (n : ℕ) → eqb n n ≡ true
 same_number n = eq-eqb n n refl
 
 -- the new copy is found
-find_new : (hs : List Held) (h : Held) → is_there (find (hs ++ (h ∷ [])) h.ledger.0 h.entry.0) ≡ true
+find_new : (hs : List Held) (h : Held) → is_some (find (hs ++ (h ∷ [])) h.ledger.0 h.entry.0) ≡ true
 find_new [] h = rw (same_number h.ledger.0, same_number h.entry.0)
 find_new (g ∷ hs) h = one (find_new hs h) (is_copy g h.ledger.0 h.entry.0)
   where
-    one : is_there (find (hs ++ (h ∷ [])) h.ledger.0 h.entry.0) ≡ true → (v : Bool)
-        → is_there (cond v (Some g) (find (hs ++ (h ∷ [])) h.ledger.0 h.entry.0)) ≡ true
+    one : is_some (find (hs ++ (h ∷ [])) h.ledger.0 h.entry.0) ≡ true → (v : Bool)
+        → is_some (cond v (Some g) (find (hs ++ (h ∷ [])) h.ledger.0 h.entry.0)) ≡ true
     one rest true = refl
     one rest false = rest
 
@@ -211,7 +212,7 @@ read_keeps ns c r l b e i =
 
     -- an absent entry was never acknowledged, since what is acknowledged is held
     never : find B.entries l.0 e.0 ≡ None → (v : Bool) → acked_by ns l.0 e.0 b.0 ≡ v → not v ≡ true
-    never q true k = absurd (false≢true (sym (ap is_there q) ∙ i.acked l.0 e.0 b.0 k))
+    never q true k = absurd (false≢true (sym (ap is_some q) ∙ i.acked l.0 e.0 b.0 k))
     never q false k = refl
 
     true_reply : (a : Result (Option Held) BookieFault) → recovery_read_answer B l e ≡ a → FoundOk (world ns c) l.0 e.0 (find B.entries l.0 e.0)

@@ -1,5 +1,6 @@
 -- Recoveries go by their rounds.
-use Rattle.std.proofs.Common.{◌≡◌, ℕ, ◌+◌, Bool, true, false, not, ◌&&◌, eqb, ltb, leb, ◌⊎◌, List, [], ◌∷◌, length, get_or, Some, None, Ok, Err, Option, sym, refl, ap, ◌∙◌, subst, inl, inr, arith}
+use Rattle.std.proofs.Common.{◌≡◌, ℕ, ◌+◌, max, Bool, true, false, not, ◌&&◌, eqb, ltb, leb, ◌⊎◌, List, [], ◌∷◌, length, get_or, Some, None, Ok, Err, Option, sym, refl, ap, ◌∙◌, subst, inl, inr, arith}
+use Rattle.std.specs.Option.{is_some}
 use Rattle.std.specs.Result.{is_ok}
 use Rattle.std.proofs.lemmas.Bool.{and_from, true≢false, false≢true, cond_both, eqb-true, ne_eqb, le-leb}
 use Rattle.ledgers.specs.Limits.{max_ledgers, max_entries, max_recoverers, is_ledger, is_recoverer}
@@ -27,10 +28,9 @@ use Rattle.messages.specs.declared.messages.Message.{Message}
 use Rattle.messages.specs.declared.messages.Message.TheVariants.{Fence, RecoveryRead, Add, RecoveryAdd, Added, AddRefused, Fenced, Absent, Found, RecoveryAdded, Refused}
 use Rattle.messages.specs.declared.metadata.LedgerState.TheVariants.{Closed}
 use Rattle.messages.specs.declared.metadata.Metadata.{Metadata}
-use Rattle.protocol.specs.Bookies.{is_there}
 use Rattle.protocol.specs.Stores.{Store, kept, known, exists, create_answer}
 use Rattle.protocol.specs.Writers.{is_made, append_answer, resend_answer, change_answer, change_store, close_answer, close_store}
-use Rattle.protocol.specs.Recoverers.{at_work, is_ended, no_recoverer, by_store, recover_answer, recover_store, new_recoverer, in_phase, read_on, write_back, higher, next, fence_marks, entry_marks, hits, heard_fenced, heard_absent, heard_written, at_hand, while_fencing, while_reading, while_writing, heard_in, heard, finish_answer}
+use Rattle.protocol.specs.Recoverers.{at_work, is_ended, no_recoverer, by_store, recover_answer, recover_store, new_recoverer, in_phase, read_on, write_back, next, fence_marks, entry_marks, hits, heard_fenced, heard_absent, heard_written, at_hand, while_fencing, while_reading, while_writing, heard_in, heard, finish_answer}
 use Rattle.protocol.specs.Clusters.{Cluster, empty, writer_of, recoverer_of, ledger_of, with_store, with_queue}
 use Rattle.protocol.specs.Steps.{Outcome, refuse, create_sized, existing, create, append, resend, changed, change_ensemble, closed, close, begun, recover, ask_again, finish, to_recoverer, act, waits, message_at, deliver, duplicate, discard, turn, step}
 use Rattle.protocol.specs.Histories.{Event, History, event, Runs, stay, more, Started, Answered}
@@ -95,8 +95,8 @@ module _ (h : History) (r : RecovererId) (R : Recoverer) where
   fencing_round m (AddRefused l b e g) ph f k = k
   fencing_round m (Fenced q l b n) ph f k =
       cond_both (eqb l.0 R.ledger.0) (heard_fenced R m b n) R (RoundOk h r)
-      (λ same. cond_both (covers R.layout.sizes (marked marks)) (read_on (higher R.settled.0 n.0)) (Fencing marks) (RoundIn h r R.ledger R.layout)
-      (λ cov. past (higher R.settled.0 n.0) (marked marks, cov, all same)) (λ _. all same))
+      (λ same. cond_both (covers R.layout.sizes (marked marks)) (read_on (max R.settled.0 n.0)) (Fencing marks) (RoundIn h r R.ledger R.layout)
+      (λ cov. past (max R.settled.0 n.0) (marked marks, cov, all same)) (λ _. all same))
       (λ _. k)
     where
       marks : List Bool
@@ -365,7 +365,7 @@ past_covered h r l y Ended q k = (refl, k)
 
 -- the race -----------------------------------------------------------------------------------------------------------
 -- a closed ledger is there
-closed_there : (o : Option Metadata) → (known o).state ≡ Closed → is_there o ≡ true
+closed_there : (o : Option Metadata) → (known o).state ≡ Closed → is_some o ≡ true
 closed_there None h = absurd (cc)
 closed_there (Some m) h = refl
 
@@ -392,7 +392,7 @@ late_finish ns c r i ended ne = (closed_now, rw (work, ended, in_range_now, ther
     there = closed_there (kept c.store R.ledger.0) closed_now
 
     in_range_now : is_ledger (recoverer_of c r.0).ledger.0 ≡ true
-    in_range_now = row_ledger c.store.ledgers R.ledger.0 i.ledgers (has_row is_there c.store.ledgers R.ledger.0 None refl there)
+    in_range_now = row_ledger c.store.ledgers R.ledger.0 i.ledgers (has_row is_some c.store.ledgers R.ledger.0 None refl there)
 
     other : eqb (ledger_of c (recoverer_of c r.0).ledger.0).version.0 (recoverer_of c r.0).version.0 ≡ false
     other = ne_eqb (ledger_of c R.ledger.0).version.0 R.version.0 ne

@@ -1,5 +1,6 @@
 -- What the invariant says of a run, in the law's words.
 use Rattle.std.proofs.Common.{◌≡◌, ℕ, zero, suc, ◌%◌, ◌<◌, ◌≤◌, Bool, true, false, not, eqb, leb, ◌⊎◌, List, [], ◌∷◌, ◌++◌, length, get_or, Some, None, Ok, Err, Option, Result, ◌≢◌, sym, refl, ap, ◌∙◌, subst, inl, inr, mod-lt, arith, length-append}
+use Rattle.std.specs.Option.{is_some}
 use native.Mathlib.Nat.{suc-mod, mod-mod}
 use lib.ListN.{length-map}
 use Rattle.std.specs.Result.{IfOk}
@@ -31,7 +32,7 @@ use Rattle.messages.specs.declared.messages.Message.{Message}
 use Rattle.messages.specs.declared.messages.Message.TheVariants.{Fence, RecoveryRead, Add, RecoveryAdd, Added, AddRefused, Fenced, Absent, Found, RecoveryAdded, Refused}
 use Rattle.messages.specs.declared.metadata.LedgerState.TheVariants.{Closed}
 use Rattle.messages.specs.declared.metadata.Metadata.{Metadata}
-use Rattle.protocol.specs.Bookies.{find, is_there, is_fenced}
+use Rattle.protocol.specs.Bookies.{find, is_fenced}
 use Rattle.protocol.specs.Stores.{Store, known, metadata_of, written}
 use Rattle.protocol.specs.Writers.{Writer, no_writer, is_made, is_closed, next_entry, has_room, appended, append_sends, reply_after, by_put, close_store}
 use Rattle.protocol.specs.Recoverers.{at_work, is_ended, no_recoverer, finished, finish_store}
@@ -365,7 +366,7 @@ held_content : {x₀ x : World} {rs : ℕ → Recoverer} {ms : List Message} →
 held_content {x₀} {x} i l e b h = by (find (x.bookie b).entries l e) refl (find_ok x (x.bookie b).entries l e (i.copies b))
   where
     by : (o : Option Held) → find (x.bookie b).entries l e ≡ o → FoundOk x l e o → e < length (x.contents l)
-    by None q f = absurd (false≢true (sym (ap is_there q) ∙ h))
+    by None q f = absurd (false≢true (sym (ap is_some q) ∙ h))
     by (Some k) q f = f.0.0
 
 -- an entry not yet appended is blocked once fenced bookies cover the last ensemble

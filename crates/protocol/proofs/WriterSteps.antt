@@ -1,5 +1,6 @@
 -- The writer's steps: create, append, resend, ensemble change and close.
 use Rattle.std.proofs.Common.{◌≡◌, ℕ, zero, suc, ◌+◌, ◌-◌, ◌<◌, ◌≤◌, min, Bool, true, false, cond, not, ◌&&◌, eqb, ltb, leb, List, [], ◌∷◌, ◌++◌, map, length, get_or, take, set, Some, None, Ok, Option, Result, sym, refl, ap, ◌∙◌, subst, inl, inr, arith, length-append, length-set}
+use Rattle.std.specs.Option.{is_some}
 use Rattle.std.specs.List.{AllByRecursion}
 use Rattle.std.proofs.ByRecursion.{All-append}
 use Rattle.std.proofs.lemmas.List.{get_or-set_same, get_or-set_other, get_or_append_left, get_or_at, length-take, take_min}
@@ -26,7 +27,6 @@ use Rattle.messages.specs.declared.messages.Message.TheVariants.{Add}
 use Rattle.messages.specs.declared.metadata.LedgerState.{LedgerState}
 use Rattle.messages.specs.declared.metadata.LedgerState.TheVariants.{Open, InRecovery, Closed}
 use Rattle.messages.specs.declared.metadata.Metadata.{Metadata}
-use Rattle.protocol.specs.Bookies.{is_there}
 use Rattle.protocol.specs.Stores.{kept, known, exists}
 use Rattle.protocol.specs.Writers.{Writer, no_writer, new_writer, is_made, is_shut_out, is_closed, fenced_writer, adds_to, adds, next_entry, has_room, new_add, appended, append_sends, all_adds, resends, by_put, change_fits, new_layout, change_store, unmarked, changed_writer, adds_at, change_sends, close_store, closed_writer}
 use Rattle.protocol.specs.Recoverers.{by_store}
@@ -45,7 +45,7 @@ use Rattle.protocol.proofs.Changes.{sent_inv, writer_later, writer_inv, put_by_w
 use Rattle.protocol.proofs.Replies.{front_ledger, fenced_becomes, lac_copied}
 
 -- a ledger that is not there is blank
-absent_known : (o : Option Metadata) → is_there o ≡ false → known o ≡ no_metadata
+absent_known : (o : Option Metadata) → is_some o ≡ false → known o ≡ no_metadata
 absent_known None h = refl
 absent_known (Some m) h = absurd (true≢false h)
 

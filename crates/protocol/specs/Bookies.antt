@@ -1,5 +1,6 @@
 -- What a bookie means, and what it answers and becomes.
 use Rattle.std.specs.Prelude.{ℕ, ◌-◌, max, Bool, true, false, cond, not, ◌&&◌, ◌||◌, List, [], ◌∷◌, ◌++◌, replicate, Some, None, Ok, Option, Result, ◌==◌, nat_le}
+use Rattle.std.specs.Option.{is_some}
 use Rattle.std.specs.Str.{bytes_eq}
 use Rattle.ledgers.specs.Limits.{max_ledgers, is_ledger, is_entry}
 use Rattle.ledgers.specs.Ids.{lac_id}
@@ -38,14 +39,9 @@ abbrev pub find : List Held → ℕ → ℕ → Option Held
 find [] l e = None
 find (h ∷ hs) l e = cond (is_copy h l e) (Some h) (find hs l e)
 
--- there is one
-abbrev pub is_there : {A : Type 0} → Option A → Bool
-is_there None = false
-is_there (Some a) = true
-
 -- the bookie has a copy of entry e of ledger l
 abbrev pub holds : Bookie → ℕ → ℕ → Bool
-holds b l e = is_there (find b.entries l e)
+holds b l e = is_some (find b.entries l e)
 
 -- the bookie is fenced for ledger l
 abbrev pub is_fenced : Bookie → ℕ → Bool

@@ -1,5 +1,5 @@
 -- The recoverer of a ledger: how it begins, what a reply makes of it, what it asks and how it finishes.
-use Rattle.std.specs.Prelude.{ℕ, ◌+◌, Bool, true, false, cond, not, ◌&&◌, List, [], ◌∷◌, Ok, Err, Result, ◌==◌, nat_le, nat_lt, slice_index}
+use Rattle.std.specs.Prelude.{ℕ, ◌+◌, max, Bool, true, false, cond, not, ◌&&◌, List, [], ◌∷◌, Ok, Err, Result, ◌==◌, nat_le, nat_lt, slice_index}
 use Rattle.ledgers.specs.Limits.{max_entries}
 use Rattle.ledgers.specs.Ids.{ledger_id, bookie_id, entry_id, lac_id, version_id}
 use Rattle.ledgers.specs.declared.bodies.Body.{Body}
@@ -131,10 +131,6 @@ write_back x n body =
       body = body;
     }
 
--- the higher of two
-abbrev pub higher : ℕ → ℕ → ℕ
-higher a b = cond (nat_lt a b) b a
-
 -- one more, as long as there can be such an entry
 abbrev pub next : ℕ → ℕ
 next n = cond (nat_lt n max_entries) (n + 1) n
@@ -157,7 +153,7 @@ fenced_on x m n = in_phase x n (cond (covers x.layout.sizes (marked m)) (read_on
 
 -- a fence answer of bookie b that tells LAC n
 abbrev pub heard_fenced : Recoverer → List Bool → BookieId → Lac → Recoverer
-heard_fenced x m b n = fenced_on x (fence_marks x m b.0) (higher x.settled.0 n.0)
+heard_fenced x m b n = fenced_on x (fence_marks x m b.0) (max x.settled.0 n.0)
 
 -- reading: once a blocking number of positions answered absent, the entry cannot have been confirmed
 abbrev pub absent_on : Recoverer → List Bool → Recoverer

@@ -1,5 +1,6 @@
 -- What a store of metadata means, and what it answers and becomes.
 use Rattle.std.specs.Prelude.{ℕ, suc, ◌-◌, Bool, true, false, not, List, Some, None, Ok, Option, Result, ◌==◌, nat_le}
+use Rattle.std.specs.Option.{is_some}
 use Rattle.ledgers.specs.Limits.{is_ledger}
 use Rattle.ledgers.specs.Ids.{lac_id, version_id}
 use Rattle.ledgers.specs.Tables.{numbered, renumbered}
@@ -14,7 +15,6 @@ use Rattle.messages.specs.declared.faults.StoreFault.TheVariants as fault
 use Rattle.messages.specs.declared.metadata.LedgerState.{LedgerState}
 use Rattle.messages.specs.declared.metadata.LedgerState.TheVariants.{Open}
 use Rattle.messages.specs.declared.metadata.Metadata.{Metadata}
-use Rattle.protocol.specs.Bookies.{is_there}
 
 -- nothing or metadata for each ledger, and how many changes are left
 pub record Store : Type 0 where
@@ -36,7 +36,7 @@ metadata_of s l = known (kept s l)
 
 -- ledger l is there
 abbrev pub exists : Store → ℕ → Bool
-exists s l = is_there (kept s l)
+exists s l = is_some (kept s l)
 
 -- the metadata of ledger l is set, which takes a change
 abbrev pub written : Store → ℕ → Metadata → Store

@@ -3,7 +3,7 @@ ghost use Rattle.std.specs.Prelude.{◌≡◌};
 ghost use Rattle.protocol.specs.Recoverers.{read_on, next};
 ghost use Rattle.recoverers.specs.Replies.{is_awaited};
 
-use ledgers::ids::{Lac, MAX_ENTRIES};
+use ledgers::ids::{EntryId, Lac};
 use messages::messages::Message;
 use protocol::recoverers::{Phase, Recoverer};
 
@@ -11,10 +11,10 @@ use protocol::recoverers::{Phase, Recoverer};
 pub(crate) fn read_on(settled: Lac) -> Phase
     ensures { result ≡ read_on settled.0 }
 {
-    if settled.0 >= MAX_ENTRIES {
-        Phase::Ended
-    } else {
+    if EntryId(settled.0).is_in_range() {
         Phase::Reading { absent: [false; 5] }
+    } else {
+        Phase::Ended
     }
 }
 
@@ -22,7 +22,7 @@ pub(crate) fn read_on(settled: Lac) -> Phase
 pub(crate) fn one_more(settled: Lac) -> Lac
     ensures { result.0 ≡ next settled.0 }
 {
-    if settled.0 < MAX_ENTRIES {
+    if EntryId(settled.0).is_in_range() {
         Lac(settled.0 + 1)
     } else {
         settled
@@ -38,7 +38,7 @@ pub(crate) fn is_awaited(recoverer: &Recoverer, reply: &Message) -> bool
         Message::Absent { ledger, entry, .. }
         | Message::Found { ledger, entry, .. }
         | Message::RecoveryAdded { ledger, entry, .. } => {
-            *ledger == recoverer.ledger && entry.0 == recoverer.settled.0
+            *ledger == recoverer.ledger && *entry == EntryId(recoverer.settled.0)
         }
         _ => false,
     }
