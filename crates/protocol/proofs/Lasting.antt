@@ -74,8 +74,8 @@ phase_later : {x y : World} → Later x y → (R : Recoverer) (l : ℕ) (u : Lay
 phase_later t R l u Idle h = h
 phase_later t R l u (Fencing m) h = h
 phase_later t R l u (Reading m) h = λ q k. barred_later t l R.settled.0 (bookie_at u R.settled.0 q) (h q k)
-phase_later t R l u (Writing m) h =
-    (sent_later t l R.settled.0 R.lac.0 R.body h.0, λ q k. t.held l R.settled.0 (bookie_at u R.settled.0 q) (h.1 q k))
+phase_later t R l u (Writing m n body) h =
+    (sent_later t l R.settled.0 n.0 body h.0, λ q k. t.held l R.settled.0 (bookie_at u R.settled.0 q) (h.1 q k))
 phase_later t R l u Ended h = sealed_later t l R.settled.0 u h
 
 -- under a recovery the ledger is not open

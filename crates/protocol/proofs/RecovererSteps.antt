@@ -113,7 +113,7 @@ pub ended_is : (ph : Phase) → is_ended ph ≡ true → ph ≡ Ended
 ended_is Idle h = absurd (false≢true h)
 ended_is (Fencing m) h = absurd (false≢true h)
 ended_is (Reading m) h = absurd (false≢true h)
-ended_is (Writing m) h = absurd (false≢true h)
+ended_is (Writing m n body) h = absurd (false≢true h)
 ended_is Ended h = refl
 
 -- an idle recoverer claims nothing

@@ -175,8 +175,8 @@ asks_ok x R r (Fencing m) h = all_asks (MessageOk x) m (last_fragment R.layout).
 asks_ok x R r (Reading m) h =
     all_asks (MessageOk x) m (fragment_of R.layout R.settled.0).bookies (λ b. RecoveryRead r R.ledger b (entry_id R.settled.0))
     (write_set R.layout.sizes R.settled.0) (λ b. tt {0})
-asks_ok x R r (Writing m) h =
-    all_asks (MessageOk x) m (fragment_of R.layout R.settled.0).bookies (λ b. RecoveryAdd r R.ledger b (entry_id R.settled.0) R.lac R.body)
+asks_ok x R r (Writing m n body) h =
+    all_asks (MessageOk x) m (fragment_of R.layout R.settled.0).bookies (λ b. RecoveryAdd r R.ledger b (entry_id R.settled.0) n body)
     (write_set R.layout.sizes R.settled.0) (λ b. h.0)
 asks_ok x R r Ended h = tt
 
@@ -185,7 +185,7 @@ phase_of : (x : World) (R : Recoverer) → RecovererOk x R → (ph : Phase) → 
 phase_of x R h Idle q = tt
 phase_of x R h (Fencing m) q = tt
 phase_of x R h (Reading m) q = subst (PhaseOk x R R.ledger.0 R.layout) q (h (ap at_work q)).phase
-phase_of x R h (Writing m) q = subst (PhaseOk x R R.ledger.0 R.layout) q (h (ap at_work q)).phase
+phase_of x R h (Writing m n body) q = subst (PhaseOk x R R.ledger.0 R.layout) q (h (ap at_work q)).phase
 phase_of x R h Ended q = subst (PhaseOk x R R.ledger.0 R.layout) q (h (ap at_work q)).phase
 
 -- to a recoverer -----------------------------------------------------------------------------------------------------
@@ -240,14 +240,14 @@ module _ (x : World) (R : Recoverer) (w : WorkOk x R) where
       (write_set R.layout.sizes R.settled.0) b.0 m (subst (PhaseOk x R R.ledger.0 R.layout) ph w.phase) g)
 
   -- writing back goes on, or an ack quorum holds the entry
-  written_on_work : (m : List Bool) → PhaseOk x R R.ledger.0 R.layout (Writing m) → WorkOk x (written_on R m)
-  written_on_work m marks =
+  written_on_work : (m : List Bool) (n : Lac) (body : Body) → PhaseOk x R R.ledger.0 R.layout (Writing m n body) → WorkOk x (written_on R m n body)
+  written_on_work m n body marks =
       cond_both (leb R.layout.sizes.ack (hits R m)) (in_phase R (next R.settled.0) (read_on (next R.settled.0)))
-      (in_phase R R.settled.0 (Writing m)) (WorkOk x)
+      (in_phase R R.settled.0 (Writing m n body)) (WorkOk x)
       (λ q. work_on (next R.settled.0)
       (cond_both (ltb R.settled.0 max_entries) (R.settled.0 + 1) R.settled.0 (λ v. Copied x R.ledger.0 v R.layout)
       (λ _ e j. one e j (leb-true R.layout.sizes.ack (hits R m) q)) (λ _. w.below)))
-      (λ _. work_in R.settled.0 (Writing m) w.below marks)
+      (λ _. work_in R.settled.0 (Writing m n body) w.below marks)
     where
       one : (e : ℕ) → e < R.settled.0 + 1 → R.layout.sizes.ack ≤ hits R m
           → R.layout.sizes.ack ≤ tally (held_at x R.ledger.0 e) (bookies_of R.layout e)
@@ -255,15 +255,15 @@ module _ (x : World) (R : Recoverer) (w : WorkOk x R) where
           let c = marks_count (held_at x R.ledger.0 R.settled.0) R.layout R.settled.0 m marks.1 in
           let here : R.layout.sizes.ack ≤ tally (held_at x R.ledger.0 R.settled.0) (bookies_of R.layout R.settled.0) = omega arith in
           elim (cases_eq e R.settled.0) [
-            | inl s ↦ subst (λ (n : ℕ). R.layout.sizes.ack ≤ tally (held_at x R.ledger.0 n) (bookies_of R.layout n)) (sym s) here
+            | inl s ↦ subst (λ (k : ℕ). R.layout.sizes.ack ≤ tally (held_at x R.ledger.0 k) (bookies_of R.layout k)) (sym s) here
             | inr s ↦ w.below e (omega arith)
           ]
 
   -- the entry was written back there
-  written_work : (m : List Bool) (b : BookieId) → R.phase ≡ Writing m → held_at x R.ledger.0 R.settled.0 b.0 ≡ true → WorkOk x (heard_written R m b)
-  written_work m b ph g =
-      let old : PhaseOk x R R.ledger.0 R.layout (Writing m) = subst (PhaseOk x R R.ledger.0 R.layout) ph w.phase in
-      written_on_work (entry_marks R m b.0) (
+  written_work : (m : List Bool) (n : Lac) (body : Body) (b : BookieId) → R.phase ≡ Writing m n body → held_at x R.ledger.0 R.settled.0 b.0 ≡ true → WorkOk x (heard_written R m n body b)
+  written_work m n body b ph g =
+      let old : PhaseOk x R R.ledger.0 R.layout (Writing m n body) = subst (PhaseOk x R R.ledger.0 R.layout) ph w.phase in
+      written_on_work (entry_marks R m b.0) n body (
         old.0,
         mark_is (λ v. held_at x R.ledger.0 R.settled.0 v ≡ true) (fragment_of R.layout R.settled.0).bookies
             (write_set R.layout.sizes R.settled.0) b.0 m old.1 g,
@@ -311,20 +311,20 @@ module _ {x₀ x : World} {rs : ℕ → Recoverer} {ms : List Message} (i : Inv 
   reading_ok m q (Refused r l b f) g = h
 
   -- and while writing back
-  writing_ok : (m : List Bool) → R.phase ≡ Writing m → (a : Message) → MessageOk x a → RecovererOk x (while_writing R m a)
-  writing_ok m q (Fence r l b) g = h
-  writing_ok m q (RecoveryRead r l b e) g = h
-  writing_ok m q (Add l b e n body) g = h
-  writing_ok m q (RecoveryAdd r l b e n body) g = h
-  writing_ok m q (Added l b e) g = h
-  writing_ok m q (AddRefused l b e f) g = h
-  writing_ok m q (Fenced r l b n) g = h
-  writing_ok m q (Absent r l b e) g = h
-  writing_ok m q (Found r l b e n body) g = h
-  writing_ok m q (RecoveryAdded r l b e) g =
-      cond_both (at_hand R l.0 e.0) (heard_written R m b) R (RecovererOk x)
-      (λ z _. written_work x R (h (ap at_work q)) m b q (of_hand R l.0 e.0 (λ k f. held_at x k f b.0 ≡ true) g z)) (λ _. h)
-  writing_ok m q (Refused r l b f) g = h
+  writing_ok : (m : List Bool) (n : Lac) (body : Body) → R.phase ≡ Writing m n body → (a : Message) → MessageOk x a → RecovererOk x (while_writing R m n body a)
+  writing_ok m n body q (Fence r l b) g = h
+  writing_ok m n body q (RecoveryRead r l b e) g = h
+  writing_ok m n body q (Add l b e n' body') g = h
+  writing_ok m n body q (RecoveryAdd r l b e n' body') g = h
+  writing_ok m n body q (Added l b e) g = h
+  writing_ok m n body q (AddRefused l b e f) g = h
+  writing_ok m n body q (Fenced r l b n') g = h
+  writing_ok m n body q (Absent r l b e) g = h
+  writing_ok m n body q (Found r l b e n' body') g = h
+  writing_ok m n body q (RecoveryAdded r l b e) g =
+      cond_both (at_hand R l.0 e.0) (heard_written R m n body b) R (RecovererOk x)
+      (λ z _. written_work x R (h (ap at_work q)) m n body b q (of_hand R l.0 e.0 (λ k f. held_at x k f b.0 ≡ true) g z)) (λ _. h)
+  writing_ok m n body q (Refused r l b f) g = h
 
   -- whatever the phase
   heard_ok : (a : Message) → MessageOk x a → RecovererOk x (heard R a)
@@ -334,7 +334,7 @@ module _ {x₀ x : World} {rs : ℕ → Recoverer} {ms : List Message} (i : Inv 
       by Idle q = h
       by (Fencing m) q = fencing_ok m q a g
       by (Reading m) q = reading_ok m q a g
-      by (Writing m) q = writing_ok m q a g
+      by (Writing m n body) q = writing_ok m n body q a g
       by Ended q = h
 
 -- a reply arrives at a recoverer

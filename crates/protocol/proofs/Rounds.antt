@@ -63,7 +63,7 @@ abbrev RoundIn : History → RecovererId → LedgerId → Layout → Phase → T
 RoundIn h r l y Idle = Unit {0}
 RoundIn h r l y (Fencing m) = (p : ℕ) → marked m p ≡ true → PositionAnswered h r l y p
 RoundIn h r l y (Reading m) = CoverAnswered h r l y
-RoundIn h r l y (Writing m) = CoverAnswered h r l y
+RoundIn h r l y (Writing m n body) = CoverAnswered h r l y
 RoundIn h r l y Ended = CoverAnswered h r l y
 
 -- the same of a recoverer, in its phase
@@ -75,7 +75,7 @@ round_later : (h : History) (v : Event) (r : RecovererId) (l : LedgerId) (y : La
 round_later h v r l y Idle not_new k = tt
 round_later h v r l y (Fencing m) not_new k = λ p z. inr (not_new, k p z)
 round_later h v r l y (Reading m) not_new k = (k.0, k.1, λ p z. inr (not_new, k.2 p z))
-round_later h v r l y (Writing m) not_new k = (k.0, k.1, λ p z. inr (not_new, k.2 p z))
+round_later h v r l y (Writing m n body) not_new k = (k.0, k.1, λ p z. inr (not_new, k.2 p z))
 round_later h v r l y Ended not_new k = (k.0, k.1, λ p z. inr (not_new, k.2 p z))
 
 -- a reply ------------------------------------------------------------------------------------------------------------
@@ -132,23 +132,23 @@ module _ (h : History) (r : RecovererId) (R : Recoverer) where
   reading_round m (Refused q l b g) ph k = k
 
   -- and while writing back
-  writing_round : (m : List Bool) (a : Message) → R.phase ≡ Writing m → RoundOk h r R → RoundOk h r (while_writing R m a)
-  writing_round m (Fence q l b) ph k = k
-  writing_round m (RecoveryRead q l b e) ph k = k
-  writing_round m (Add l b e n body) ph k = k
-  writing_round m (RecoveryAdd q l b e n body) ph k = k
-  writing_round m (Added l b e) ph k = k
-  writing_round m (AddRefused l b e g) ph k = k
-  writing_round m (Fenced q l b n) ph k = k
-  writing_round m (Absent q l b e) ph k = k
-  writing_round m (Found q l b e n body) ph k = k
-  writing_round m (RecoveryAdded q l b e) ph k =
-      cond_both (at_hand R l.0 e.0) (heard_written R m b) R (RoundOk h r)
+  writing_round : (m : List Bool) (n : Lac) (body : Body) (a : Message) → R.phase ≡ Writing m n body → RoundOk h r R → RoundOk h r (while_writing R m n body a)
+  writing_round m n body (Fence q l b) ph k = k
+  writing_round m n body (RecoveryRead q l b e) ph k = k
+  writing_round m n body (Add l b e n' body') ph k = k
+  writing_round m n body (RecoveryAdd q l b e n' body') ph k = k
+  writing_round m n body (Added l b e) ph k = k
+  writing_round m n body (AddRefused l b e g) ph k = k
+  writing_round m n body (Fenced q l b n') ph k = k
+  writing_round m n body (Absent q l b e) ph k = k
+  writing_round m n body (Found q l b e n' body') ph k = k
+  writing_round m n body (RecoveryAdded q l b e) ph k =
+      cond_both (at_hand R l.0 e.0) (heard_written R m n body b) R (RoundOk h r)
       (λ _. cond_both (leb R.layout.sizes.ack (hits R (entry_marks R m b.0))) (in_phase R (next R.settled.0) (read_on (next R.settled.0)))
-      (in_phase R R.settled.0 (Writing (entry_marks R m b.0))) (RoundOk h r)
+      (in_phase R R.settled.0 (Writing (entry_marks R m b.0) n body)) (RoundOk h r)
       (λ _. past (next R.settled.0) (subst (RoundIn h r R.ledger R.layout) ph k)) (λ _. subst (RoundIn h r R.ledger R.layout) ph k))
       (λ _. k)
-  writing_round m (Refused q l b g) ph k = k
+  writing_round m n body (Refused q l b g) ph k = k
 
   heard_round : (a : Message) → ((l : LedgerId) (b : BookieId) (n : Lac) (q : RecovererId) → a ≡ Fenced q l b n → Answered h r l b) → RoundOk h r R → RoundOk h r (heard R a)
   heard_round a f k = by R.phase refl
@@ -157,7 +157,7 @@ module _ (h : History) (r : RecovererId) (R : Recoverer) where
       by Idle q = k
       by (Fencing m) q = fencing_round m a q f k
       by (Reading m) q = reading_round m a q k
-      by (Writing m) q = writing_round m a q k
+      by (Writing m n body) q = writing_round m n body a q k
       by Ended q = k
 
 -- steps --------------------------------------------------------------------------------------------------------------
@@ -360,7 +360,7 @@ past_covered : (h : History) (r : RecovererId) (l : LedgerId) (y : Layout) (ph :
 past_covered h r l y Idle q k = absurd (false≢true q)
 past_covered h r l y (Fencing m) q k = absurd (false≢true q)
 past_covered h r l y (Reading m) q k = (refl, k)
-past_covered h r l y (Writing m) q k = (refl, k)
+past_covered h r l y (Writing m n body) q k = (refl, k)
 past_covered h r l y Ended q k = (refl, k)
 
 -- the race -----------------------------------------------------------------------------------------------------------

@@ -225,8 +225,8 @@ abbrev pub PhaseOk : World → Recoverer → ℕ → Layout → Phase → Type 0
 PhaseOk x R l y Idle = Unit {0}
 PhaseOk x R l y (Fencing m) = Unit {0}
 PhaseOk x R l y (Reading m) = (q : ℕ) → marked m q ≡ true → barred x l R.settled.0 (bookie_at y R.settled.0 q) ≡ true
-PhaseOk x R l y (Writing m) =
-    Sent x l R.settled.0 R.lac.0 R.body
+PhaseOk x R l y (Writing m n body) =
+    Sent x l R.settled.0 n.0 body
     × ((q : ℕ) → marked m q ≡ true → held_at x l R.settled.0 (bookie_at y R.settled.0 q) ≡ true)
 PhaseOk x R l y Ended = Sealed x l R.settled.0 y
 

@@ -80,7 +80,7 @@ abbrev pub past_fences : Phase → Bool
 past_fences Idle = false
 past_fences (Fencing m) = false
 past_fences (Reading m) = true
-past_fences (Writing m) = true
+past_fences (Writing m n body) = true
 past_fences Ended = true
 
 -- a recovery goes by its rounds

@@ -12,7 +12,6 @@ use Rattle.layout.specs.WriteSets.{write_set, ensemble, tally, marked, no_marks,
 use Rattle.layout.specs.Layouts.{no_layout, fragment_of, last_fragment, last_first}
 use Rattle.layout.specs.declared.fragments.Layout.{Layout}
 use Rattle.messages.specs.Faults.{question}
-use Rattle.messages.specs.Blanks.{no_body}
 use Rattle.messages.specs.declared.faults.StoreFault.{StoreFault}
 use Rattle.messages.specs.declared.messages.Message.{Message}
 use Rattle.messages.specs.declared.messages.Message.TheVariants.{Fence, RecoveryRead, Add, RecoveryAdd, Added, AddRefused, Fenced, Absent, Found, RecoveryAdded, Refused}
@@ -31,7 +30,7 @@ abbrev pub at_work : Phase → Bool
 at_work Idle = false
 at_work (Fencing m) = true
 at_work (Reading m) = true
-at_work (Writing m) = true
+at_work (Writing m n body) = true
 at_work Ended = true
 
 -- it knows where to close
@@ -39,7 +38,7 @@ abbrev pub is_ended : Phase → Bool
 is_ended Idle = false
 is_ended (Fencing m) = false
 is_ended (Reading m) = false
-is_ended (Writing m) = false
+is_ended (Writing m n body) = false
 is_ended Ended = true
 
 -- one that is idle
@@ -51,8 +50,6 @@ no_recoverer =
       version = version_id 0;
       layout = no_layout;
       settled = lac_id 0;
-      lac = lac_id 0;
-      body = no_body;
     }
 
 -- begin --------------------------------------------------------------------------------------------------------------
@@ -98,21 +95,12 @@ recover_store s l = begin_store s l (metadata_of s l.0) (metadata_of s l.0).stat
 -- every entry before the last fragment's first is settled: a change comes only where all before it are confirmed
 abbrev pub new_recoverer : LedgerId → Version → Layout → Recoverer
 new_recoverer l v y =
-    record { phase = Fencing no_marks; ledger = l; version = v; layout = y; settled = lac_id (last_first y); lac = lac_id 0; body = no_body }
+    record { phase = Fencing no_marks; ledger = l; version = v; layout = y; settled = lac_id (last_first y) }
 
 -- replies ------------------------------------------------------------------------------------------------------------
 -- with n entries settled, in another phase
 abbrev pub in_phase : Recoverer → ℕ → Phase → Recoverer
-in_phase x n ph =
-    record {
-      phase = ph;
-      ledger = x.ledger;
-      version = x.version;
-      layout = x.layout;
-      settled = lac_id n;
-      lac = x.lac;
-      body = x.body;
-    }
+in_phase x n ph = record { phase = ph; ledger = x.ledger; version = x.version; layout = x.layout; settled = lac_id n }
 
 -- with n entries settled, the next is read, if there can be one
 abbrev pub read_on : ℕ → Phase
@@ -120,16 +108,7 @@ read_on n = cond (nat_le max_entries n) Ended (Reading no_marks)
 
 -- the entry that was found is written back
 abbrev pub write_back : Recoverer → Lac → Body → Recoverer
-write_back x n body =
-    record {
-      phase = Writing no_marks;
-      ledger = x.ledger;
-      version = x.version;
-      layout = x.layout;
-      settled = x.settled;
-      lac = n;
-      body = body;
-    }
+write_back x n body = in_phase x x.settled.0 (Writing no_marks n body)
 
 -- one more, as long as there can be such an entry
 abbrev pub next : ℕ → ℕ
@@ -164,14 +143,14 @@ abbrev pub heard_absent : Recoverer → List Bool → BookieId → Recoverer
 heard_absent x m b = absent_on x (entry_marks x m b.0)
 
 -- writing back: once an ack quorum holds the entry, it is settled, and the next is read
-abbrev pub written_on : Recoverer → List Bool → Recoverer
-written_on x m =
+abbrev pub written_on : Recoverer → List Bool → Lac → Body → Recoverer
+written_on x m n body =
     cond (nat_le x.layout.sizes.ack (hits x m)) (in_phase x (next x.settled.0) (read_on (next x.settled.0)))
-    (in_phase x x.settled.0 (Writing m))
+    (in_phase x x.settled.0 (Writing m n body))
 
 -- bookie b holds the entry at hand
-abbrev pub heard_written : Recoverer → List Bool → BookieId → Recoverer
-heard_written x m b = written_on x (entry_marks x m b.0)
+abbrev pub heard_written : Recoverer → List Bool → Lac → Body → BookieId → Recoverer
+heard_written x m n body b = written_on x (entry_marks x m b.0) n body
 
 -- the reply is of the ledger and the entry at hand
 abbrev pub at_hand : Recoverer → ℕ → ℕ → Bool
@@ -206,25 +185,25 @@ while_reading x m (RecoveryAdded r l b e) = x
 while_reading x m (Refused r l b f) = x
 
 -- only good replies for the entry at hand count
-abbrev pub while_writing : Recoverer → List Bool → Message → Recoverer
-while_writing x m (Fence r l b) = x
-while_writing x m (RecoveryRead r l b e) = x
-while_writing x m (Add l b e n body) = x
-while_writing x m (RecoveryAdd r l b e n body) = x
-while_writing x m (Added l b e) = x
-while_writing x m (AddRefused l b e f) = x
-while_writing x m (Fenced r l b n) = x
-while_writing x m (Absent r l b e) = x
-while_writing x m (Found r l b e n body) = x
-while_writing x m (RecoveryAdded r l b e) = cond (at_hand x l.0 e.0) (heard_written x m b) x
-while_writing x m (Refused r l b f) = x
+abbrev pub while_writing : Recoverer → List Bool → Lac → Body → Message → Recoverer
+while_writing x m n body (Fence r l b) = x
+while_writing x m n body (RecoveryRead r l b e) = x
+while_writing x m n body (Add l b e n' body') = x
+while_writing x m n body (RecoveryAdd r l b e n' body') = x
+while_writing x m n body (Added l b e) = x
+while_writing x m n body (AddRefused l b e f) = x
+while_writing x m n body (Fenced r l b n') = x
+while_writing x m n body (Absent r l b e) = x
+while_writing x m n body (Found r l b e n' body') = x
+while_writing x m n body (RecoveryAdded r l b e) = cond (at_hand x l.0 e.0) (heard_written x m n body b) x
+while_writing x m n body (Refused r l b f) = x
 
 -- a reply of another phase is ignored
 abbrev pub heard_in : Phase → Recoverer → Message → Recoverer
 heard_in Idle x m = x
 heard_in (Fencing marks) x m = while_fencing x marks m
 heard_in (Reading absent) x m = while_reading x absent m
-heard_in (Writing good) x m = while_writing x good m
+heard_in (Writing good n body) x m = while_writing x good n body m
 heard_in Ended x m = x
 
 -- what a recoverer is after a reply
@@ -250,7 +229,7 @@ abbrev pub asks_in : Phase → Recoverer → RecovererId → List Message
 asks_in Idle x r = []
 asks_in (Fencing m) x r = asks_ensemble x m (λ b. Fence r x.ledger b)
 asks_in (Reading m) x r = asks_write_set x m (λ b. RecoveryRead r x.ledger b (entry_id x.settled.0))
-asks_in (Writing m) x r = asks_write_set x m (λ b. RecoveryAdd r x.ledger b (entry_id x.settled.0) x.lac x.body)
+asks_in (Writing m n body) x r = asks_write_set x m (λ b. RecoveryAdd r x.ledger b (entry_id x.settled.0) n body)
 asks_in Ended x r = []
 
 -- the requests of the phase it is in
@@ -262,7 +241,7 @@ abbrev pub phase_number : Phase → ℕ
 phase_number Idle = 0
 phase_number (Fencing m) = 1
 phase_number (Reading m) = 2
-phase_number (Writing m) = 3
+phase_number (Writing m n body) = 3
 phase_number Ended = 4
 
 -- a reply that leads to another phase has that phase's requests sent

@@ -210,7 +210,7 @@ abbrev pub standing : Phase → Lac → Answer
 standing Idle n = answer.Idle
 standing (Fencing m) n = answer.Settled n
 standing (Reading m) n = answer.Settled n
-standing (Writing m) n = answer.Settled n
+standing (Writing m k body) n = answer.Settled n
 standing Ended n = answer.Settled n
 
 -- a reply makes of the recoverer what it does: what is settled

@@ -10,11 +10,19 @@ pub enum Phase {
     // for the recoverer first.
     Idle,
     // It fences the ensemble of the last fragment.
-    Fencing { marks: [bool; 5] },
+    Fencing {
+        marks: [bool; 5],
+    },
     // It reads the entry after the settled one: positions where that is absent are marked.
-    Reading { absent: [bool; 5] },
-    // It writes that entry back: positions that hold it are marked.
-    Writing { good: [bool; 5] },
+    Reading {
+        absent: [bool; 5],
+    },
+    // It writes that entry back, with the LAC and the body as read: positions that hold it are marked.
+    Writing {
+        good: [bool; 5],
+        lac: Lac,
+        body: Body,
+    },
     // It knows where to close the ledger.
     Ended,
 }
@@ -28,7 +36,4 @@ pub struct Recoverer {
     pub layout: Layout,
     // Every entry up to this one has an ack quorum of copies.
     pub settled: Lac,
-    // While it writes back: the LAC and the body of the entry as read.
-    pub lac: Lac,
-    pub body: Body,
 }

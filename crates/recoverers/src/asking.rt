@@ -35,14 +35,14 @@ pub(crate) fn ask(recoverer: &Recoverer, number: RecovererId, messages: &mut Wai
             };
             Round::of_entry(layout, entry, absent).send(request, messages);
         }
-        Phase::Writing { good } => {
+        Phase::Writing { good, lac, body } => {
             let request = |bookie| Message::RecoveryAdd {
                 recoverer: number,
                 ledger,
                 bookie,
                 entry,
-                lac: recoverer.lac,
-                body: recoverer.body,
+                lac: *lac,
+                body: *body,
             };
             Round::of_entry(layout, entry, good).send(request, messages);
         }

@@ -5,7 +5,6 @@ ghost use Rattle.protocol.specs.Recoverers.{recover_store, new_recoverer, is_end
 ghost use Rattle.recoverers.specs.Beginnings.{begin_recovery};
 
 use layout::fragments::Layout;
-use ledgers::bodies::Body;
 use ledgers::ids::{Lac, LedgerId, Version};
 use messages::faults::StoreFault;
 use messages::metadata::LedgerState;
@@ -45,8 +44,6 @@ fn new_recoverer(ledger: LedgerId, version: Version, layout: &Layout) -> Recover
         version,
         layout: *layout,
         settled: Lac(layout.last_fragment().first.0),
-        lac: Lac(0),
-        body: Body::empty(),
     }
 }
 

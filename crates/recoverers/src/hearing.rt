@@ -62,11 +62,13 @@ impl Recovery for Recoverer {
                 Phase::Ended
             }
             (Phase::Reading { .. }, Message::Found { lac, body, .. }) => {
-                self.lac = *lac;
-                self.body = *body;
-                Phase::Writing { good: [false; 5] }
+                Phase::Writing {
+                    good: [false; 5],
+                    lac: *lac,
+                    body: *body,
+                }
             }
-            (Phase::Writing { good }, Message::RecoveryAdded { bookie, .. }) => {
+            (Phase::Writing { good, .. }, Message::RecoveryAdded { bookie, .. }) => {
                 self.layout.mark_write_set(next, *bookie, good);
                 if sizes.marked(next, good) < sizes.ack_quorum() {
                     return false;
