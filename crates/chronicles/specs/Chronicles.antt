@@ -1,5 +1,5 @@
 -- What a chronicle means.
-use Rattle.std.specs.Prelude.{◌≡◌, ℕ, ◌-◌, ◌<◌, ◌≤◌, min, List, [], ◌∷◌, ◌++◌, length, take, Ok, Err, Option, Result, slice_set}
+use Rattle.std.specs.Prelude.{◌≡◌, ℕ, ◌-◌, ◌<◌, ◌≤◌, min, List, [], ◌∷◌, ◌++◌, length, take, Ok, Err, Result, slice_set}
 use Rattle.ledgers.specs.declared.ids.Lac.{Lac}
 use Rattle.ledgers.specs.declared.ids.LedgerId.{LedgerId}
 use Rattle.layout.specs.declared.fragments.Layout.{Layout}
@@ -7,8 +7,8 @@ use Rattle.messages.specs.Faults.{when_ok}
 use Rattle.messages.specs.declared.faults.SetUpFault.{SetUpFault}
 use Rattle.messages.specs.declared.faults.SetUpFault.TheVariants.{ChroniclePlaces}
 use Rattle.messages.specs.declared.metadata.LedgerState.{LedgerState}
-use Rattle.messages.specs.declared.metadata.Metadata.{Metadata}
-use Rattle.stores.specs.Meaning.{store, new_store}
+use Rattle.protocol.specs.Stores.{Store}
+use Rattle.stores.specs.Meaning.{new_store}
 use Rattle.chronicles.specs.Replays.{replayed}
 use Rattle.chronicles.specs.declared.changes.Change.{Change}
 use Rattle.chronicles.specs.declared.chronicle.Chronicle.{Chronicle}
@@ -21,13 +21,9 @@ max_changes = 60000
 abbrev pub history : Chronicle → List Change
 history c = take c.made c.places.now
 
--- it keeps what they leave
-abbrev pub chronicle_ledgers : Chronicle → List (Option Metadata)
-chronicle_ledgers c = replayed (history c)
-
--- and can take one for each place behind them
-abbrev pub chronicle_changes : Chronicle → ℕ
-chronicle_changes c = min max_changes (length c.places.now) - c.made
+-- it keeps what they leave, and can take one for each place behind them
+abbrev pub in_chronicle : Chronicle → Store
+in_chronicle c = record { ledgers = replayed (history c); changes = min max_changes (length c.places.now) - c.made }
 
 -- the change that sets a ledger's record
 abbrev pub change_to : LedgerId → LedgerState → Layout → Lac → Change
@@ -43,5 +39,5 @@ places_after r c x = when_ok r (slice_set c.places.now c.made x) c.places.now
 
 -- n places make a new store with n changes, and more than 60,000 are refused
 abbrev pub SetUp : ℕ → Result Chronicle SetUpFault → Type 0
-SetUp n (Ok c) = (n ≤ max_changes) × (store chronicle_ledgers chronicle_changes c ≡ new_store n) × (history c ≡ [])
+SetUp n (Ok c) = (n ≤ max_changes) × (in_chronicle c ≡ new_store n) × (history c ≡ [])
 SetUp n (Err f) = (f ≡ ChroniclePlaces) × (max_changes < n)

@@ -1,6 +1,5 @@
 // How a recovery begins and how it ends, at the store.
 ghost use Rattle.std.specs.Prelude.{◌≡◌, if◌then◌else◌};
-ghost use Rattle.stores.specs.Meaning.{store};
 ghost use Rattle.protocol.specs.Recoverers.{recover_store, new_recoverer, is_ended, finish_answer, finish_store};
 ghost use Rattle.recoverers.specs.Beginnings.{begin_recovery};
 
@@ -15,8 +14,8 @@ use stores::calls::Store;
 // Takes a ledger over: an open one is put in recovery, one in recovery is taken as read, and a closed one is refused.
 #[tactic(auto, using(crate::proofs::Found::begun_open, crate::proofs::Found::begun_again))]
 pub fn begin<S: Store>(ledgers: &mut S, ledger: LedgerId) -> Result<Recoverer, ClientFault>
-    ensures answer { result ≡ begin_recovery (store S.Store.ledgers S.Store.changes ledgers.old) ledger }
-    ensures after { store S.Store.ledgers S.Store.changes ledgers.new ≡ recover_store (store S.Store.ledgers S.Store.changes ledgers.old) ledger }
+    ensures answer { result ≡ begin_recovery (S.means ledgers.old) ledger }
+    ensures after { S.means ledgers.new ≡ recover_store (S.means ledgers.old) ledger }
 {
     let found = ledgers.get(ledger)?;
     let version = match found.state {
@@ -50,8 +49,8 @@ fn new_recoverer(ledger: LedgerId, version: Version, layout: &Layout) -> Recover
 // Closes the ledger of a recovery that has ended, and answers the closing entry: that of whoever was quicker, where another
 // closed it first.
 pub fn finish<S: Store>(recoverer: &Recoverer, ledgers: &mut S) -> Result<Lac, ClientFault>
-    ensures answer { result ≡ finish_answer recoverer.now (store S.Store.ledgers S.Store.changes ledgers.old) }
-    ensures after { store S.Store.ledgers S.Store.changes ledgers.new ≡ (if is_ended recoverer.now.phase then finish_store recoverer.now (store S.Store.ledgers S.Store.changes ledgers.old) else store S.Store.ledgers S.Store.changes ledgers.old) }
+    ensures answer { result ≡ finish_answer recoverer.now (S.means ledgers.old) }
+    ensures after { S.means ledgers.new ≡ (if is_ended recoverer.now.phase then finish_store recoverer.now (S.means ledgers.old) else S.means ledgers.old) }
 {
     if !matches!(recoverer.phase, Phase::Ended) {
         return Err(ClientFault::Unfinished);

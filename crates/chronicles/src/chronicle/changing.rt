@@ -1,7 +1,6 @@
 // A chronicle is set up, and shows its changes.
 ghost use Rattle.std.specs.Prelude.{◌≡◌, length};
-ghost use Rattle.stores.specs.Meaning.{store};
-ghost use Rattle.chronicles.specs.Chronicles.{history, chronicle_ledgers, chronicle_changes, SetUp};
+ghost use Rattle.chronicles.specs.Chronicles.{history, in_chronicle, SetUp};
 ghost use Rattle.chronicles.specs.Replays.{Complete};
 
 use super::{Chronicle, MAX_CHANGES};
@@ -22,7 +21,7 @@ impl<'a> Chronicle<'a> {
     // Every change that was ever accepted, in order. No version of a ledger is missing.
     pub fn changes(&self) -> &[Change]
         ensures value { result.now ≡ history self.now }
-        ensures complete { Complete (store chronicle_ledgers chronicle_changes self.now) result.now }
+        ensures complete { Complete (in_chronicle self.now) result.now }
     {
         &self.places[..self.made as usize]
     }

@@ -3,8 +3,7 @@ ghost use Rattle.std.specs.Prelude.{◌≡◌, suc, ◌≤◌, [], ◌∷◌, �
 ghost use Rattle.messages.specs.declared.metadata.LedgerState.TheVariants.{Open};
 ghost use Rattle.ledgers.specs.Ids.{lac_id};
 ghost use Rattle.protocol.specs.Stores.{kept, known, written, create_answer, create_after, put_answer, put_after};
-ghost use Rattle.stores.specs.Meaning.{store};
-ghost use Rattle.chronicles.specs.Chronicles.{history, chronicle_ledgers, chronicle_changes, change_to, history_after, places_after};
+ghost use Rattle.chronicles.specs.Chronicles.{history, in_chronicle, change_to, history_after, places_after};
 
 use super::Chronicle;
 use crate::changes::{Change, latest};
@@ -18,7 +17,7 @@ use stores::questions::{ask_create, ask_get, ask_put};
 impl Chronicle<'_> {
     // What is kept of a ledger; its version is not above the number of changes.
     fn kept(&self, ledger: LedgerId) -> Option<Metadata>
-        ensures value { result ≡ kept (store chronicle_ledgers chronicle_changes self.now) ledger.0 }
+        ensures value { result ≡ kept (in_chronicle self.now) ledger.0 }
         ensures version { (known result).version.0 ≤ self.now.made }
     {
         latest(self.changes(), ledger)
@@ -26,16 +25,16 @@ impl Chronicle<'_> {
 
     // Whether a change is left.
     fn has_room(&self) -> bool
-        ensures { result ≡ nat_le 1 (chronicle_changes self.now) }
+        ensures { result ≡ nat_le 1 (in_chronicle self.now).changes }
     {
         (self.made as usize) < self.places.len()
     }
 
     // Notes a change, which makes this the metadata of its ledger.
     fn write(&mut self, ledger: LedgerId, metadata: Metadata)
-        requires left { 1 ≤ chronicle_changes self.old }
-        requires version { metadata.version.0 ≡ suc (known (kept (store chronicle_ledgers chronicle_changes self.old) ledger.0)).version.0 }
-        ensures after { store chronicle_ledgers chronicle_changes self.new ≡ written (store chronicle_ledgers chronicle_changes self.old) ledger.0 metadata }
+        requires left { 1 ≤ (in_chronicle self.old).changes }
+        requires version { metadata.version.0 ≡ suc (known (kept (in_chronicle self.old) ledger.0)).version.0 }
+        ensures after { in_chronicle self.new ≡ written (in_chronicle self.old) ledger.0 metadata }
         ensures history { history self.new ≡ history self.old ++ (change_to ledger metadata.state metadata.layout metadata.closing ∷ []) }
         ensures places { self.new.places.now ≡ slice_set self.old.places.now self.old.made (change_to ledger metadata.state metadata.layout metadata.closing) }
     {
@@ -51,17 +50,15 @@ impl Chronicle<'_> {
 }
 
 impl Store for Chronicle<'_> {
-    ghost ledgers = { chronicle_ledgers };
-
-    ghost changes = { chronicle_changes };
+    ghost means = { in_chronicle };
 
     fn get(&self, ledger: LedgerId) -> Result<Metadata, StoreFault> {
         ask_get(ledger, self.kept(ledger))
     }
 
     fn create(&mut self, ledger: LedgerId, layout: &Layout) -> Result<Version, StoreFault>
-        ensures answer { result ≡ create_answer (store chronicle_ledgers chronicle_changes self.old) ledger }
-        ensures after { store chronicle_ledgers chronicle_changes self.new ≡ create_after (store chronicle_ledgers chronicle_changes self.old) ledger layout.now }
+        ensures answer { result ≡ create_answer (in_chronicle self.old) ledger }
+        ensures after { in_chronicle self.new ≡ create_after (in_chronicle self.old) ledger layout.now }
         ensures history { history self.new ≡ history_after result self.old (change_to ledger Open layout.now (lac_id 0)) }
         ensures places { self.new.places.now ≡ places_after result self.old (change_to ledger Open layout.now (lac_id 0)) }
     {
@@ -85,8 +82,8 @@ impl Store for Chronicle<'_> {
         layout: &Layout,
         closing: Lac,
     ) -> Result<Version, StoreFault>
-        ensures answer { result ≡ put_answer (store chronicle_ledgers chronicle_changes self.old) ledger expected }
-        ensures after { store chronicle_ledgers chronicle_changes self.new ≡ put_after (store chronicle_ledgers chronicle_changes self.old) ledger expected state layout.now closing }
+        ensures answer { result ≡ put_answer (in_chronicle self.old) ledger expected }
+        ensures after { in_chronicle self.new ≡ put_after (in_chronicle self.old) ledger expected state layout.now closing }
         ensures history { history self.new ≡ history_after result self.old (change_to ledger state layout.now closing) }
         ensures places { self.new.places.now ≡ places_after result self.old (change_to ledger state layout.now closing) }
     {

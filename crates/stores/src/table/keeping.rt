@@ -3,8 +3,8 @@ ghost use Rattle.std.specs.Prelude.{◌≡◌, ◌+◌, ◌<◌, ◌≤◌, true
 ghost use Rattle.ledgers.specs.Tables.{renumbered};
 ghost use Rattle.ledgers.specs.Limits.{is_ledger};
 ghost use Rattle.protocol.specs.Stores.{kept, known, written};
-ghost use Rattle.stores.specs.Meaning.{store, new_store};
-ghost use Rattle.stores.specs.Tables.{table_ledgers, table_changes};
+ghost use Rattle.stores.specs.Meaning.{new_store};
+ghost use Rattle.stores.specs.Tables.{in_table};
 
 use super::{TABLE_CHANGES, Table};
 use crate::calls::Store;
@@ -17,7 +17,7 @@ use messages::metadata::{LedgerState, Metadata};
 impl Table {
     // A table without a ledger.
     pub fn new() -> Table
-        ensures { store table_ledgers table_changes result ≡ new_store 60000 }
+        ensures { in_table result ≡ new_store 60000 }
     {
         Table {
             ledgers: [None; 16],
@@ -27,7 +27,7 @@ impl Table {
 
     // What is kept of a ledger; its version leaves room for a change that is left.
     fn kept(&self, ledger: LedgerId) -> Option<Metadata>
-        ensures value { result ≡ kept (store table_ledgers table_changes self.now) ledger.0 }
+        ensures value { result ≡ kept (in_table self.now) ledger.0 }
         ensures version { (known result).version.0 ≤ self.now.made }
     {
         match ledger.row() {
@@ -38,16 +38,16 @@ impl Table {
 
     // Whether a change is left.
     fn has_room(&self) -> bool
-        ensures { result ≡ nat_le 1 (table_changes self.now) }
+        ensures { result ≡ nat_le 1 (in_table self.now).changes }
     {
         self.made < TABLE_CHANGES
     }
 
     // Sets the metadata of a ledger, which takes a change.
     fn change(&mut self, ledger: LedgerId, metadata: Metadata)
-        requires left { 1 ≤ table_changes self.old }
+        requires left { 1 ≤ (in_table self.old).changes }
         requires version { metadata.version.0 ≤ self.old.made + 1 }
-        ensures { store table_ledgers table_changes self.new ≡ written (store table_ledgers table_changes self.old) ledger.0 metadata }
+        ensures { in_table self.new ≡ written (in_table self.old) ledger.0 metadata }
     {
         self.count_change();
         self.write(ledger, metadata);
@@ -75,9 +75,7 @@ impl Table {
 }
 
 impl Store for Table {
-    ghost ledgers = { table_ledgers };
-
-    ghost changes = { table_changes };
+    ghost means = { in_table };
 
     fn get(&self, ledger: LedgerId) -> Result<Metadata, StoreFault> {
         ask_get(ledger, self.kept(ledger))

@@ -8,7 +8,6 @@ ghost use Rattle.ledgers.specs.Ids.{lac_id};
 ghost use Rattle.messages.specs.declared.metadata.LedgerState.TheVariants.{Open};
 ghost use Rattle.protocol.specs.Stores.{put_after};
 ghost use Rattle.protocol.specs.Writers.{change_answer, change_fits, change_store, changed_writer, change_sends, fenced_writer, unmarked, adds_at, with_pending};
-ghost use Rattle.stores.specs.Meaning.{store};
 ghost use Rattle.writers.specs.Meaning.{meant};
 ghost use Rattle.writers.specs.Puts.{after_put, adoption_answer, adopted, adoption_sends, change_after, change_stored, change_sent};
 
@@ -31,10 +30,10 @@ impl Writer<'_> {
         ledgers: &mut S,
         messages: &mut WaitingList<'_>,
     ) -> Result<Option<EntryId>, ClientFault>
-        ensures answer { result ≡ change_answer (meant self.old) (store S.Store.ledgers S.Store.changes ledgers.old) ledger position bookie }
-        ensures after { meant self.new ≡ change_after (meant self.old) (store S.Store.ledgers S.Store.changes ledgers.old) ledger position bookie }
-        ensures stored { store S.Store.ledgers S.Store.changes ledgers.new ≡ change_stored (meant self.old) (store S.Store.ledgers S.Store.changes ledgers.old) ledger position bookie }
-        ensures sends { queue messages.new ≡ sent (queue messages.old) (change_sent (meant self.old) (store S.Store.ledgers S.Store.changes ledgers.old) ledger position bookie) }
+        ensures answer { result ≡ change_answer (meant self.old) (S.means ledgers.old) ledger position bookie }
+        ensures after { meant self.new ≡ change_after (meant self.old) (S.means ledgers.old) ledger position bookie }
+        ensures stored { S.means ledgers.new ≡ change_stored (meant self.old) (S.means ledgers.old) ledger position bookie }
+        ensures sends { queue messages.new ≡ sent (queue messages.old) (change_sent (meant self.old) (S.means ledgers.old) ledger position bookie) }
     {
         if !self.fits(position, bookie) {
             return Err(ClientFault::Ensemble);
@@ -56,9 +55,9 @@ impl Writer<'_> {
         messages: &mut WaitingList<'_>,
     ) -> Result<Option<EntryId>, ClientFault>
         requires { position.0 < 5 }
-        ensures answer { result ≡ adoption_answer (meant self.old) (store S.Store.ledgers S.Store.changes ledgers.old) ledger }
+        ensures answer { result ≡ adoption_answer (meant self.old) (S.means ledgers.old) ledger }
         ensures after { meant self.new ≡ after_put result (changed_writer (meant self.old) position bookie) (fenced_writer (meant self.old)) (meant self.old) }
-        ensures stored { store S.Store.ledgers S.Store.changes ledgers.new ≡ after_put result (change_store (meant self.old) (store S.Store.ledgers S.Store.changes ledgers.old) ledger position bookie) (store S.Store.ledgers S.Store.changes ledgers.old) (store S.Store.ledgers S.Store.changes ledgers.old) }
+        ensures stored { S.means ledgers.new ≡ after_put result (change_store (meant self.old) (S.means ledgers.old) ledger position bookie) (S.means ledgers.old) (S.means ledgers.old) }
         ensures sends { queue messages.new ≡ sent (queue messages.old) (after_put result (change_sends (meant self.old) ledger position bookie) [] []) }
     {
         let layout = self.layout.changed(EntryId(self.lac.0), position, bookie);
@@ -76,9 +75,9 @@ impl Writer<'_> {
         messages: &mut WaitingList<'_>,
     ) -> Result<Option<EntryId>, ClientFault>
         requires { position.0 < 5 }
-        ensures answer { result ≡ adoption_answer (meant self.old) (store S.Store.ledgers S.Store.changes ledgers.old) ledger }
+        ensures answer { result ≡ adoption_answer (meant self.old) (S.means ledgers.old) ledger }
         ensures after { meant self.new ≡ after_put result (adopted (meant self.old) layout.now (suc self.old.version.0) position) (fenced_writer (meant self.old)) (meant self.old) }
-        ensures stored { store S.Store.ledgers S.Store.changes ledgers.new ≡ after_put result (put_after (store S.Store.ledgers S.Store.changes ledgers.old) ledger self.old.version Open layout.now (lac_id 0)) (store S.Store.ledgers S.Store.changes ledgers.old) (store S.Store.ledgers S.Store.changes ledgers.old) }
+        ensures stored { S.means ledgers.new ≡ after_put result (put_after (S.means ledgers.old) ledger self.old.version Open layout.now (lac_id 0)) (S.means ledgers.old) (S.means ledgers.old) }
         ensures sends { queue messages.new ≡ sent (queue messages.old) (after_put result (adoption_sends (meant self.old) layout.now ledger position bookie) [] []) }
     {
         match self.put(ledger, LedgerState::Open, layout, Lac(0), ledgers)? {

@@ -2,7 +2,6 @@
 ghost use Rattle.std.specs.Prelude.{◌≡◌};
 ghost use Rattle.layout.specs.Layouts.{no_layout};
 ghost use Rattle.messages.specs.Faults.{when_ok};
-ghost use Rattle.stores.specs.Meaning.{store};
 ghost use Rattle.protocol.specs.Stores.{create_answer, create_after};
 ghost use Rattle.protocol.specs.Writers.{no_writer, new_writer};
 ghost use Rattle.writers.specs.Beginnings.{created_answer};
@@ -40,9 +39,9 @@ impl<'a> Writer<'a> {
         layout: &Layout,
         ledgers: &mut S,
     ) -> Result<Version, ClientFault>
-        ensures answer { result ≡ created_answer (store S.Store.ledgers S.Store.changes ledgers.old) ledger }
-        ensures after { meant self.new ≡ when_ok (create_answer (store S.Store.ledgers S.Store.changes ledgers.old) ledger) (new_writer layout.now) (meant self.old) }
-        ensures stored { store S.Store.ledgers S.Store.changes ledgers.new ≡ create_after (store S.Store.ledgers S.Store.changes ledgers.old) ledger layout.now }
+        ensures answer { result ≡ created_answer (S.means ledgers.old) ledger }
+        ensures after { meant self.new ≡ when_ok (create_answer (S.means ledgers.old) ledger) (new_writer layout.now) (meant self.old) }
+        ensures stored { S.means ledgers.new ≡ create_after (S.means ledgers.old) ledger layout.now }
     {
         let version = ledgers.create(ledger, layout)?;
         self.begin(layout, version);

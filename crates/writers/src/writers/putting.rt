@@ -1,6 +1,5 @@
 // The puts of a writer, and the close of its ledger.
 ghost use Rattle.std.specs.Prelude.{◌≡◌};
-ghost use Rattle.stores.specs.Meaning.{store};
 ghost use Rattle.protocol.specs.Writers.{close_answer};
 ghost use Rattle.writers.specs.Meaning.{meant};
 ghost use Rattle.writers.specs.Puts.{Put, close_after, close_stored};
@@ -21,9 +20,9 @@ impl Writer<'_> {
         ledger: LedgerId,
         ledgers: &mut S,
     ) -> Result<Option<Lac>, ClientFault>
-        ensures answer { result ≡ close_answer (meant self.old) (store S.Store.ledgers S.Store.changes ledgers.old) ledger }
-        ensures after { meant self.new ≡ close_after (meant self.old) (store S.Store.ledgers S.Store.changes ledgers.old) ledger }
-        ensures stored { store S.Store.ledgers S.Store.changes ledgers.new ≡ close_stored (meant self.old) (store S.Store.ledgers S.Store.changes ledgers.old) ledger }
+        ensures answer { result ≡ close_answer (meant self.old) (S.means ledgers.old) ledger }
+        ensures after { meant self.new ≡ close_after (meant self.old) (S.means ledgers.old) ledger }
+        ensures stored { S.means ledgers.new ≡ close_stored (meant self.old) (S.means ledgers.old) ledger }
     {
         self.ask_writing()?;
         if self.pending.len() > 0 {
@@ -52,7 +51,7 @@ impl Writer<'_> {
         closing: Lac,
         ledgers: &mut S,
     ) -> Result<Option<Version>, StoreFault>
-        ensures { Put (store S.Store.ledgers S.Store.changes ledgers.old) ledger self.now.version state layout.now closing result (store S.Store.ledgers S.Store.changes ledgers.new) }
+        ensures { Put (S.means ledgers.old) ledger self.now.version state layout.now closing result (S.means ledgers.new) }
     {
         match ledgers.put(ledger, self.version, state, layout, closing) {
             Ok(version) => Ok(Some(version)),

@@ -1,7 +1,6 @@
 use Rattle.std.proofs.Common.{suc, ap, ◌∙◌}
 use Rattle.ledgers.specs.Ids.{lac_id}
 use Rattle.messages.specs.declared.metadata.LedgerState.TheVariants.{Open}
-use Rattle.stores.specs.Meaning.{store}
 use Rattle.protocol.specs.Stores.{put_after}
 use Rattle.protocol.specs.Writers.{fenced_writer}
 use Rattle.writers.specs.Meaning.{meant}
@@ -17,6 +16,6 @@ returns-clause-after g c =
 
 pub returns-clause-stored : goal.returns-clause-stored
 returns-clause-stored g c =
-    let s = store g.S.Store.ledgers g.S.Store.changes c.args.ledgers.now in
+    let s = g.S.Store.means c.args.ledgers.now in
     c.change_to.ensures.stored
     ∙ ap (λ y. after_put c.change_to.result (put_after s c.args.ledger c.args.self.now.version Open y (lac_id 0)) s s) c.changed-layout.ensures.layout
