@@ -1,7 +1,7 @@
 // Rounds of requests.
 ghost use Rattle.std.specs.Prelude.{◌≡◌};
 ghost use Rattle.ledgers.specs.declared.ids.BookieId.{BookieId};
-ghost use Rattle.layout.specs.WriteSets.{write_set, ensemble, marked};
+ghost use Rattle.layout.specs.WriteSets.{write_set, ensemble};
 ghost use Rattle.layout.specs.Layouts.{fragment_of, last_fragment};
 ghost use Rattle.layout.specs.Positions.{listed_positions};
 ghost use Rattle.messages.specs.Waiting.{sent};
@@ -11,6 +11,7 @@ ghost use Rattle.protocol.specs.Recoverers.{asks_to};
 ghost use Rattle.recoverers.specs.Rounds.{Makes, requests};
 
 use layout::fragments::{Fragment, Layout};
+use layout::marks::is_marked;
 use layout::positions::Positions;
 use ledgers::ids::{BookieId, EntryId, Position};
 use messages::messages::Message;
@@ -53,17 +54,9 @@ impl Round {
         ensures { (f : BookieId → Message) → Makes (F.post request) f → queue messages.new ≡ sent (queue messages.old) (requests self.now f) }
     {
         for position in self.positions.as_slice() {
-            if !self.has_answered(*position) {
+            if !is_marked(&self.answered, *position) {
                 messages.send(request(self.fragment.bookie(Position(*position))));
             }
         }
-    }
-
-    // Whether a position has answered.
-    fn has_answered(&self, position: u32) -> bool
-        ensures { result ≡ marked self.now.answered position }
-    {
-        let mark = self.answered.get(position as usize);
-        mark.copied().unwrap_or(false)
     }
 }
