@@ -14,8 +14,8 @@ pub const MAX_NUMBERS: usize = 9;
 #[derive(Clone, Copy)]
 pub struct Numbers {
     // The first nine; zeros where there are fewer.
-    pub values: [u32; 9],
-    // How many words there are, also where they are more.
+    pub values: [u32; MAX_NUMBERS],
+    // How many words there are, also where they are more: it is no length of what is kept, as an array vector's would be.
     pub count: usize,
 }
 
