@@ -7,10 +7,7 @@ use ledgers::ids::LedgerId;
 pub(crate) fn is_raised(flags: &[bool; 16], ledger: LedgerId) -> bool
     ensures { result ≡ numbered flags.now ledger.0 false }
 {
-    match ledger.row() {
-        Some(row) => flags[row],
-        None => false,
-    }
+    ledger.row().is_some_and(|row| flags[row])
 }
 
 pub(crate) fn raise(flags: &mut [bool; 16], ledger: LedgerId)

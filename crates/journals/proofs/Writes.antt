@@ -5,11 +5,12 @@ use Rattle.std.proofs.lemmas.Bool.{and_parts, leb-true}
 use Rattle.ledgers.specs.Tables.{row, renumbered}
 use Rattle.messages.specs.declared.entries.Held.{Held}
 use Rattle.protocol.specs.Bookies.{add_fits}
-use Rattle.journals.specs.Fences.{word}
+use Rattle.journals.specs.Fences.{word, flags}
 use Rattle.journals.specs.Records.{record_image, images}
 use Rattle.journals.specs.Files.{header_image, laid_out, end_of, entries_in, fences_in, space_in, size_fits}
 use Rattle.journals.specs.Headers.{header_of}
 use Rattle.journals.specs.declared.headers.Header.{Header}
+use Rattle.journals.proofs.Bits.{flags_word}
 use Rattle.journals.proofs.Images.{length_images, images_push, fit_push}
 use Rattle.journals.proofs.Laid.{Stands, Written, written, own, own_fit}
 
@@ -18,11 +19,7 @@ header_laid : (n : ℕ) (es : List Held) (fs : List Bool) (c e w m : ℕ) (rest 
     → c ≡ length es → e ≡ end_of es → w ≡ word fs → m ≡ n → rest ≡ images es ++ replicate (n - end_of es) 0
     → header_image c e w m ++ rest ≡ laid_out n es fs
 unfolding laid_out
-header_laid n es fs c e w m rest ic ie iw im ir =
-    ap (λ x. header_image x e w m ++ rest) ic ∙ ap (λ x. header_image (length es) x w m ++ rest) ie
-    ∙ ap (λ x. header_image (length es) (end_of es) x m ++ rest) iw
-    ∙ ap (λ x. header_image (length es) (end_of es) (word fs) x ++ rest) im
-    ∙ ap (λ x. header_image (length es) (end_of es) (word fs) n ++ x) ir
+header_laid n es fs c e w m rest ic ie iw im ir = simp (ic, ie, iw, im, ir)
 
 -- f says es in n bytes
 module _ (f : List ℕ) (n : ℕ) (es : List Held) (long : length f ≡ n) (behind : drop 32 f ≡ images es ++ replicate (n - end_of es) 0) where
@@ -87,23 +84,25 @@ module _ (f : List ℕ) (s : Stands f) (old : Header) (reads : old ≡ header_of
       (put ∙ ap (λ (x : Header). take x.end f ++ (record_image h ++ drop (x.end + 52) f)) reads)
       (headed ∙ ap (λ (x : Header). header_image (x.count + 1) (x.end + 52) x.fences x.size ++ drop 32 g) reads))
 
-  pub fence_kept : (l w : ℕ) (k : List ℕ) → w ≡ word (renumbered (fences_in f) l true)
+  pub fence_kept : (l w : ℕ) (k : List ℕ) → w ≡ word (renumbered (flags old.fences) l true)
       → k ≡ header_image old.count old.end w old.size ++ drop 32 f
       → Written k (length f) (entries_in f) (renumbered (fences_in f) l true)
   fence_kept l w k is headed =
       let o = own f s in
       let known = own_fit f s in
-      let flags = fences_in f in
-      written (length f) (entries_in f) (renumbered flags l true) k
+      let fs = fences_in f in
+      written (length f) (entries_in f) (renumbered fs l true) k
       (record {
         least = known.least;
         most = known.most;
         room = known.room;
-        all_flags = length-set flags (row flags l) true ∙ known.all_flags;
+        all_flags = length-set fs (row fs l) true ∙ known.all_flags;
         sound = known.sound;
       })
-      (fence_written f (length f) (entries_in f) (omega arith) o.rest (renumbered flags l true) k w
-      (headed ∙ ap (λ (x : Header). header_image x.count x.end w x.size ++ drop 32 f) reads) is)
+      (fence_written f (length f) (entries_in f) (omega arith) o.rest (renumbered fs l true) k w
+      (headed ∙ ap (λ (x : Header). header_image x.count x.end w x.size ++ drop 32 f) reads)
+      (is ∙ ap (λ (x : Header). word (renumbered (flags x.fences) l true)) reads
+      ∙ ap (λ xs. word (renumbered xs l true)) (flags_word fs known.all_flags)))
 
 -- a new file: zeros, and a header over them
 pub new_written : (f g k : List ℕ) → size_fits (length f) ≡ true → g ≡ replicate (length f) 0

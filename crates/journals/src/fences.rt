@@ -9,10 +9,7 @@ use ledgers::ids::LedgerId;
 pub(crate) fn has_fence(bits: u32, ledger: LedgerId) -> bool
     ensures { result ≡ numbered (flags bits) ledger.0 false }
 {
-    match ledger.row() {
-        Some(row) => (bits >> row) % 2 == 1,
-        None => false,
-    }
+    ledger.row().is_some_and(|row| (bits >> row) % 2 == 1)
 }
 
 // The number with one fence more, where none but those of the ledgers are set.

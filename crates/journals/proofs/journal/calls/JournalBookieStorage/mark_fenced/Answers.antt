@@ -1,5 +1,4 @@
-use Rattle.std.proofs.Common.{true, sym, refl, ap, ◌∙◌}
-use Rattle.ledgers.specs.Tables.{renumbered}
+use Rattle.std.proofs.Common.{sym, refl, ap, ◌∙◌}
 use Rattle.journals.specs.Fences.{word, flags}
 use Rattle.journals.proofs.Owned.{stood, said, flags_owned, bookie_same}
 use Rattle.journals.proofs.Writes.{fence_kept}
@@ -13,13 +12,11 @@ with_fence-requires c =
 pub invariant_of-self : goal.invariant_of-self
 invariant_of-self c =
     let s = c.args.self.now in
-    let bits = c.with_fence.ensures ∙ ap (λ h. word (renumbered (flags h.fences) c.args.ledger.0 true)) c.header-header.ensures ∙ ap (λ fs. word (renumbered fs c.args.ledger.0 true)) (flags_owned s) in
-    let kept = (fence_kept _ (stood s) _ c.header-header.ensures c.args.ledger.0 _ _ bits c.write_header.ensures).keeps in
+    let kept = (fence_kept _ (stood s) _ c.header-header.ensures c.args.ledger.0 _ _ c.with_fence.ensures c.write_header.ensures).keeps in
     record { least = kept.least; most = kept.most; room = kept.room; sound = kept.sound; laid = kept.laid }
 
 pub returns : goal.returns
 returns c =
     let s = c.args.self.now in
-    let bits = c.with_fence.ensures ∙ ap (λ h. word (renumbered (flags h.fences) c.args.ledger.0 true)) c.header-header.ensures ∙ ap (λ fs. word (renumbered fs c.args.ledger.0 true)) (flags_owned s) in
-    let now = (fence_kept _ (stood s) _ c.header-header.ensures c.args.ledger.0 _ _ bits c.write_header.ensures).tells in
+    let now = (fence_kept _ (stood s) _ c.header-header.ensures c.args.ledger.0 _ _ c.with_fence.ensures c.write_header.ensures).tells in
     bookie_same _ _ refl now.entries now.fences (now.space ∙ sym (said s).space)
