@@ -3,19 +3,16 @@
 
 #[cfg(test)]
 mod tests {
-    use bookies::faults::fault_number;
     use bookies::interface::Bookie;
     use bookies::memory::MemoryBookie;
-    use groups::faults::GroupFault;
     use groups::interface::Group;
     use groups::one::One;
     use groups::pair::Pair;
     use journals::journal::JournalBookie;
-    use journals::set_up::{JournalUser, with_journal};
+    use journals::set_up::with_journal;
     use ledgers::bodies::Body;
     use ledgers::ids::{BookieId, EntryId, Lac, LedgerId};
     use messages::entries::Held;
-    use messages::faults::BookieFault;
     use std::test::*;
 
     const LONG: [u8; 41] = [32; 41];
@@ -30,17 +27,13 @@ mod tests {
     }
 
     // 0 for a good answer, and else the refusal's number.
-    fn number(answer: Result<(), BookieFault>) -> u32 {
+    fn number<F: Drop>(answer: Result<(), F>) -> u32
+    where
+        u32: From<F>,
+    {
         match answer {
             Ok(()) => 0,
-            Err(fault) => fault_number(fault),
-        }
-    }
-
-    fn group_number(answer: Result<(), GroupFault>) -> u32 {
-        match answer {
-            Ok(()) => 0,
-            Err(fault) => fault.number(),
+            Err(fault) => u32::from(fault),
         }
     }
 
@@ -76,6 +69,12 @@ mod tests {
         check(add(bookie, 1, 0, 0, b"oak") == 22)
     }
 
+    // Both, one after the other.
+    fn all_answers<B: Bookie>(bookie: &mut B) -> Result<(), Fail> {
+        out_of_range(bookie)?;
+        in_order(bookie)
+    }
+
     fn blank() -> Held {
         let Some(body) = Body::new(b"") else {
             unreachable()
@@ -92,82 +91,54 @@ mod tests {
     fn a_memory_bookie_puts_its_questions_in_order(rt: HostRuntime) -> Result<(), Fail> {
         let mut records = [blank(); 1];
         let mut bookie = MemoryBookie::new(&mut records);
-        out_of_range(&mut bookie)?;
-        in_order(&mut bookie)
-    }
-
-    #[derive(Drop)]
-    struct Orders;
-
-    impl JournalUser for Orders {
-        type Answer = Result<(), Fail>;
-
-        ghost promises = { λ _ _ _. Unit {0} };
-
-        fn work(self, bookie: &mut JournalBookie<'_>) -> Result<(), Fail> {
-            out_of_range(bookie)?;
-            in_order(bookie)
-        }
+        all_answers(&mut bookie)
     }
 
     #[test]
     fn a_journal_bookie_puts_its_questions_in_order(rt: HostRuntime) -> Result<(), Fail> {
         let mut file = [7; 84];
-        match with_journal(&mut file, Orders) {
-            Ok(worked) => worked,
-            Err(_) => {
-                assert!(rt; false);
-                Ok(())
-            },
-        }
+        let Ok(worked) = with_journal(&mut file, |bookie| all_answers(bookie)) else {
+            assert!(rt; false);
+            return Ok(());
+        };
+        worked
     }
 
     #[test]
     fn a_journal_of_83_bytes_is_refused(rt: HostRuntime) -> Result<(), Fail> {
         let mut file = [7; 83];
-        match with_journal(&mut file, Orders) {
+        match with_journal(&mut file, |bookie| all_answers(bookie)) {
             Ok(worked) => {
                 worked?;
                 assert!(rt; false);
                 Ok(())
             }
             Err(fault) => {
-                assert!(rt; fault.number() == 15 && file[0] == 7);
+                assert!(rt; u32::from(fault) == 15 && file[0] == 7);
                 Ok(())
-            },
+            }
         }
     }
 
-    #[derive(Drop)]
-    struct Example;
-
-    impl JournalUser for Example {
-        type Answer = Result<(), Fail>;
-
-        ghost promises = { λ _ _ _. Unit {0} };
-
-        fn work(self, bookie: &mut JournalBookie<'_>) -> Result<(), Fail> {
-            check(add(bookie, 16, 300, 259, b"oak") == 0)?;
-            check(bookie.fence(LedgerId(1)).is_ok())?;
-            check(bookie.fence(LedgerId(16)).is_ok())?;
-            let mut expected = [0u8; 136];
-            expected[0..16].copy_from_slice(&[1, 0, 0, 0, 84, 0, 0, 0, 1, 128, 0, 0, 136, 0, 0, 0]);
-            expected[32..47].copy_from_slice(&[16, 0, 3, 0, 44, 1, 0, 0, 3, 1, 0, 0, 111, 97, 107]);
-            check(bookie.bytes() == &expected[..])
-        }
+    fn worked_example(bookie: &mut JournalBookie<'_>) -> Result<(), Fail> {
+        check(add(bookie, 16, 300, 259, b"oak") == 0)?;
+        check(bookie.fence(LedgerId(1)).is_ok())?;
+        check(bookie.fence(LedgerId(16)).is_ok())?;
+        let mut expected = [0u8; 136];
+        expected[0..16].copy_from_slice(&[1, 0, 0, 0, 84, 0, 0, 0, 1, 128, 0, 0, 136, 0, 0, 0]);
+        expected[32..47].copy_from_slice(&[16, 0, 3, 0, 44, 1, 0, 0, 3, 1, 0, 0, 111, 97, 107]);
+        check(bookie.bytes() == &expected[..])
     }
 
     // The worked example of docs/JOURNAL.md.
     #[test]
     fn a_journal_has_the_bytes_of_the_worked_example(rt: HostRuntime) -> Result<(), Fail> {
         let mut file = [7; 136];
-        match with_journal(&mut file, Example) {
-            Ok(worked) => worked,
-            Err(_) => {
-                assert!(rt; false);
-                Ok(())
-            },
-        }
+        let Ok(worked) = with_journal(&mut file, worked_example) else {
+            assert!(rt; false);
+            return Ok(());
+        };
+        worked
     }
 
     #[test]
@@ -182,16 +153,14 @@ mod tests {
                 bookie: &mut second,
             },
         };
-        assert!(rt; group_number(group.stop(BookieId(8))) == 4);
-        assert!(rt; group_number(group.start(BookieId(2))) == 4);
-        assert!(rt; group_number(group.stop(BookieId(1))) == 0);
+        assert!(rt; number(group.stop(BookieId(8))) == 4);
+        assert!(rt; number(group.start(BookieId(2))) == 4);
+        assert!(rt; number(group.stop(BookieId(1))) == 0);
         assert!(rt;
-            group_number(group.add(BookieId(1), LedgerId(1), EntryId(0), Lac(0), b"oak", false))
-                == 21
+            number(group.add(BookieId(1), LedgerId(1), EntryId(0), Lac(0), b"oak", false)) == 21
         );
         assert!(rt;
-            group_number(group.add(BookieId(0), LedgerId(1), EntryId(0), Lac(0), b"oak", false))
-                == 0
+            number(group.add(BookieId(0), LedgerId(1), EntryId(0), Lac(0), b"oak", false)) == 0
         );
         Ok(())
     }

@@ -1,3 +1,3 @@
 pub mod Searching
-pub mod Past
 pub mod Adds
+pub mod SameBody

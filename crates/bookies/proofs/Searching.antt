@@ -1,22 +1,32 @@
--- The steps of a search through records, from the front.
-use Rattle.std.proofs.Common.{◌≡◌, ℕ, ◌+◌, ◌<◌, max, cond, eqb, List, length, get_or, drop, Some, sym, ap, ◌∙◌}
-use Rattle.std.proofs.lemmas.List.{at_drop_more}
+-- The library's searches through a list of entries are the protocol's.
+use Rattle.std.proofs.Common.{◌≡◌, ℕ, max, cond, eqb, List, [], ◌∷◌, Some, None, Option, Ordering, Less, Equal, Greater, option_map, unwrap_or, fold, filter, refl, ap, arith}
+use Rattle.std.proofs.lemmas.Bool.Decides.{nat_tests}
+use Rattle.std.specs.List.{find}
+use Rattle.std.specs.Ordering.{max_by_ordering}
+use Rattle.ledgers.specs.declared.ids.Lac.{Lac}
 use Rattle.messages.specs.declared.entries.Held.{Held}
-use Rattle.protocol.specs.Bookies.{is_copy, find, highest_lac}
+use Rattle.protocol.specs.Bookies.{is_copy, find as copy_in, highest_lac}
 
--- where the search stands at record h, it is h or what the records behind it give
-module _ (xs : List Held) (i : ℕ) (h : Held) (lt : i < length xs) (is : h ≡ get_or xs i h) where
-  pub find_step : (l e : ℕ) → find (drop i xs) l e ≡ cond (is_copy h l e) (Some h) (find (drop (i + 1) xs) l e)
-  find_step l e =
-      at_drop_more (λ ys. find ys l e) xs i h lt
-      ∙ ap (λ (k : Held). cond (is_copy k l e) (Some k) (find (drop (i + 1) xs) l e)) (sym is)
+module _ (l : ℕ) where
+  pub find_copy : (e : ℕ) (es : List Held) → find (λ h. is_copy h l e) es ≡ copy_in es l e
+  find_copy e [] = refl
+  find_copy e (h ∷ hs) = ap (cond (is_copy h l e) (Some h)) (find_copy e hs)
 
-  pub highest_step : (l : ℕ)
-      → highest_lac (drop i xs) l
-      ≡ cond (eqb h.ledger.0 l) (max h.lac.0 (highest_lac (drop (i + 1) xs) l)) (highest_lac (drop (i + 1) xs) l)
-  highest_step l =
-      at_drop_more (λ ys. highest_lac ys l) xs i h lt
-      ∙ ap
-      (λ (k : Held).
-      cond (eqb k.ledger.0 l) (max k.lac.0 (highest_lac (drop (i + 1) xs) l)) (highest_lac (drop (i + 1) xs) l))
-      (sym is)
+  -- from the highest so far
+  pub fold_highest : (n : ℕ) (es : List Held) → fold (λ m (h : Held). max m h.lac.0) n (filter (λ h. eqb h.ledger.0 l) es) ≡ max n (highest_lac es l)
+  fold_highest n [] = omega arith
+  fold_highest n (h ∷ hs) =
+      let a = fold_highest n hs in
+      let b = fold_highest (max n h.lac.0) hs in
+      grind (arith, nat_tests)
+
+-- the later of two LACs has the greater number
+pub later_number : (o : Ordering) (p z : Lac) → (max_by_ordering o p z).0 ≡ max_by_ordering o p.0 z.0
+later_number Less p z = refl
+later_number Equal p z = refl
+later_number Greater p z = refl
+
+-- the number of a LAC, or of none
+pub number_or : (o : Option Lac) (none : Lac) → (unwrap_or o none).0 ≡ unwrap_or (option_map (λ (n : Lac). n.0) o) none.0
+number_or None none = refl
+number_or (Some n) none = refl

@@ -2,22 +2,18 @@
 ghost use Rattle.std.specs.Prelude.{◌≡◌, true, false};
 ghost use Rattle.ledgers.specs.Tables.{numbered, renumbered};
 
-use ledgers::ids::{LedgerId, MAX_LEDGERS};
+use ledgers::ids::LedgerId;
 
 pub(crate) fn is_raised(flags: &[bool; 16], ledger: LedgerId) -> bool
     ensures { result ≡ numbered flags.now ledger.0 false }
 {
-    if ledger.0 < 1 || ledger.0 > MAX_LEDGERS {
-        return false;
-    }
-    flags[ledger.0 as usize - 1]
+    ledger.row().is_some_and(|row| flags[row])
 }
 
 pub(crate) fn raise(flags: &mut [bool; 16], ledger: LedgerId)
     ensures { flags.new ≡ renumbered flags.old ledger.0 true }
 {
-    if ledger.0 < 1 || ledger.0 > MAX_LEDGERS {
-        return;
+    if let Some(row) = ledger.row() {
+        flags[row] = true;
     }
-    flags[ledger.0 as usize - 1] = true;
 }

@@ -5,7 +5,8 @@ use messages::entries::Held;
 
 #[derive(Drop)]
 pub struct MemoryBookie<'a> {
-    // The first `count` records are the entries held; what the others are says nothing.
+    // The first `count` records are the entries held; what the others are says nothing. They stand in memory that is
+    // lent, so that a bookie allocates nothing.
     records: &'a mut [Held],
     count: usize,
     // Whether each ledger is fenced, from ledger 1 on.

@@ -1,31 +1,34 @@
-// Searches through records, one pass each.
-ghost use Rattle.std.specs.Prelude.{◌≡◌};
+// Searches through entries as they come, one pass each, wherever they are kept.
+ghost use Rattle.std.specs.Prelude.{◌≡◌, List};
+ghost use Rattle.std.specs.Iterator.{IsFinite, AlwaysYields};
+ghost use Rattle.messages.specs.declared.entries.Held.{Held};
 ghost use Rattle.protocol.specs.Bookies.{find as copy_in, highest_lac};
 
 use ledgers::ids::{EntryId, Lac, LedgerId};
 use messages::entries::Held;
 
 // The copy of an entry.
-pub(crate) fn find(records: &[Held], ledger: LedgerId, number: EntryId) -> Option<Held>
-    ensures { result ≡ copy_in records.now ledger.0 number.0 }
+pub fn find<I: Iterator<Item = Held> + Drop>(
+    mut entries: I,
+    ledger: LedgerId,
+    number: EntryId,
+) -> Option<Held>
+    requires can { I.can_next entries }
+    requires finite { IsFinite (I.remaining entries) }
+    ensures { (all : List Held) → AlwaysYields I.next_gives (λ h. h) entries all → result ≡ copy_in all ledger.0 number.0 }
 {
-    for held in records {
-        if held.ledger.0 == ledger.0 && held.entry.0 == number.0 {
-            return Some(*held);
-        }
-    }
-    None
+    entries.find(|held| held.ledger == ledger && held.entry == number)
 }
 
 // The highest LAC among the entries of a ledger.
-pub(crate) fn highest(records: &[Held], ledger: LedgerId) -> Lac
-    ensures { result.0 ≡ highest_lac records.now ledger.0 }
+pub fn highest<I: Iterator<Item = Held> + Drop>(entries: I, ledger: LedgerId) -> Lac
+    requires can { I.can_next entries }
+    requires finite { IsFinite (I.remaining entries) }
+    ensures { (all : List Held) → AlwaysYields I.next_gives (λ h. h) entries all → result.0 ≡ highest_lac all ledger.0 }
 {
-    let mut best = 0;
-    for held in records {
-        if held.ledger.0 == ledger.0 && held.lac.0 > best {
-            best = held.lac.0;
-        }
-    }
-    Lac(best)
+    entries
+        .filter(|held| held.ledger == ledger)
+        .map(|held| held.lac)
+        .max()
+        .unwrap_or(Lac(0))
 }

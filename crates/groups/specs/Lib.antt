@@ -1,3 +1,2 @@
 pub mod Members
 pub mod Numbers
-pub mod Sides

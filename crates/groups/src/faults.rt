@@ -3,10 +3,9 @@ ghost use Rattle.std.specs.Prelude.{◌≡◌};
 ghost use Rattle.groups.specs.Numbers.{group_number};
 ghost use Rattle.groups.specs.declared.faults.GroupFault.TheVariants.{Refused as of_bookie};
 
-use bookies::faults::fault_number;
 use messages::faults::BookieFault;
 
-#[derive(Clone, Copy)]
+#[derive(Clone, Copy, PartialEq, Eq)]
 pub enum GroupFault {
     // No bookie has the number: 4.
     Missing,
@@ -14,21 +13,21 @@ pub enum GroupFault {
     Refused(BookieFault),
 }
 
-impl GroupFault {
-    pub fn number(self) -> u32
-        ensures { result ≡ group_number self }
-    {
-        match self {
-            GroupFault::Missing => 4,
-            GroupFault::Refused(fault) => fault_number(fault),
-        }
-    }
-}
-
 impl From<BookieFault> for GroupFault {
     ghost from_gives = { λ e r. r ≡ of_bookie e };
 
     fn from(e: BookieFault) -> GroupFault {
         GroupFault::Refused(e)
+    }
+}
+
+impl From<GroupFault> for u32 {
+    ghost from_gives = { λ fault number. number ≡ group_number fault };
+
+    fn from(fault: GroupFault) -> u32 {
+        match fault {
+            GroupFault::Missing => 4,
+            GroupFault::Refused(fault) => u32::from(fault),
+        }
     }
 }

@@ -1,6 +1,6 @@
 // One bookie as a group. The bookie is lent, since facts of its type may be about memory that is lent to it.
-ghost use Rattle.std.specs.Prelude.{[], ◌∷◌};
-ghost use Rattle.bookies.specs.Calls.{meaning};
+ghost use Rattle.std.specs.Prelude.{◌≡◌, [], ◌∷◌, Ok, nat_lt};
+ghost use Rattle.messages.specs.Faults.{question};
 
 use crate::faults::GroupFault;
 use crate::interface::Group;
@@ -13,15 +13,21 @@ pub struct One<'b, B> {
     pub bookie: &'b mut B,
 }
 
+// The one bookie has number 0.
+fn is_there(bookie: BookieId) -> Result<(), GroupFault>
+    ensures { result ≡ question (nat_lt bookie.0 1) GroupFault.Missing (Ok tt) }
+{
+    if bookie.0 > 0 {
+        return Err(GroupFault::Missing);
+    }
+    Ok(())
+}
+
 impl<B: Bookie> Group for One<'_, B> {
-    ghost members = { λ s. meaning B.Bookie.entries B.Bookie.fences B.Bookie.space B.Bookie.up s.bookie.now ∷ [] };
+    ghost members = { λ s. B.Bookie.means s.bookie.now ∷ [] };
 
     fn past(&self, bookie: BookieId) -> Option<BookieId> {
-        if bookie.0 == 0 {
-            None
-        } else {
-            Some(BookieId(bookie.0 - 1))
-        }
+        bookie.0.checked_sub(1).map(BookieId)
     }
 
     fn add(
@@ -33,19 +39,13 @@ impl<B: Bookie> Group for One<'_, B> {
         body: &[u8],
         recovery: bool,
     ) -> Result<(), GroupFault> {
-        if bookie.0 > 0 {
-            return Err(GroupFault::Missing);
-        }
-        self.bookie.add(ledger, entry, lac, body, recovery)?;
-        Ok(())
+        is_there(bookie)?;
+        Ok(self.bookie.add(ledger, entry, lac, body, recovery)?)
     }
 
     fn fence(&mut self, bookie: BookieId, ledger: LedgerId) -> Result<Lac, GroupFault> {
-        if bookie.0 > 0 {
-            return Err(GroupFault::Missing);
-        }
-        let lac = self.bookie.fence(ledger)?;
-        Ok(lac)
+        is_there(bookie)?;
+        Ok(self.bookie.fence(ledger)?)
     }
 
     fn read(
@@ -54,25 +54,18 @@ impl<B: Bookie> Group for One<'_, B> {
         ledger: LedgerId,
         entry: EntryId,
     ) -> Result<Option<Held>, GroupFault> {
-        if bookie.0 > 0 {
-            return Err(GroupFault::Missing);
-        }
-        let found = self.bookie.read(ledger, entry)?;
-        Ok(found)
+        is_there(bookie)?;
+        Ok(self.bookie.read(ledger, entry)?)
     }
 
     fn stop(&mut self, bookie: BookieId) -> Result<(), GroupFault> {
-        if bookie.0 > 0 {
-            return Err(GroupFault::Missing);
-        }
+        is_there(bookie)?;
         self.bookie.stop();
         Ok(())
     }
 
     fn start(&mut self, bookie: BookieId) -> Result<(), GroupFault> {
-        if bookie.0 > 0 {
-            return Err(GroupFault::Missing);
-        }
+        is_there(bookie)?;
         self.bookie.start();
         Ok(())
     }

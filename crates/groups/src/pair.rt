@@ -1,6 +1,7 @@
 // Two groups side by side: the numbers of the right one follow those of the left one.
+#![tactic(auto, using(crate::proofs::Places::sides))]
+
 ghost use Rattle.std.specs.Prelude.{◌++◌};
-ghost use Rattle.groups.specs.Sides.{Sided};
 
 use crate::faults::GroupFault;
 use crate::interface::Group;
@@ -13,30 +14,11 @@ pub struct Pair<L, R> {
     pub right: R,
 }
 
-// The side that a number belongs to, and its number there.
-#[derive(Clone, Copy)]
-pub enum Side {
-    Left(BookieId),
-    Right(BookieId),
-}
-
-fn side_of<L: Group, R: Group>(pair: &Pair<L, R>, bookie: BookieId) -> Side
-    ensures { Sided (L.Group.members pair.now.left) (R.Group.members pair.now.right) bookie result }
-{
-    match pair.left.past(bookie) {
-        None => Side::Left(bookie),
-        Some(other) => Side::Right(other),
-    }
-}
-
 impl<L: Group, R: Group> Group for Pair<L, R> {
     ghost members = { λ s. L.Group.members s.left ++ R.Group.members s.right };
 
     fn past(&self, bookie: BookieId) -> Option<BookieId> {
-        match self.left.past(bookie) {
-            None => None,
-            Some(other) => self.right.past(other),
-        }
+        self.right.past(self.left.past(bookie)?)
     }
 
     fn add(
@@ -48,16 +30,16 @@ impl<L: Group, R: Group> Group for Pair<L, R> {
         body: &[u8],
         recovery: bool,
     ) -> Result<(), GroupFault> {
-        match side_of(self, bookie) {
-            Side::Left(number) => self.left.add(number, ledger, entry, lac, body, recovery),
-            Side::Right(number) => self.right.add(number, ledger, entry, lac, body, recovery),
+        match self.left.past(bookie) {
+            None => self.left.add(bookie, ledger, entry, lac, body, recovery),
+            Some(other) => self.right.add(other, ledger, entry, lac, body, recovery),
         }
     }
 
     fn fence(&mut self, bookie: BookieId, ledger: LedgerId) -> Result<Lac, GroupFault> {
-        match side_of(self, bookie) {
-            Side::Left(number) => self.left.fence(number, ledger),
-            Side::Right(number) => self.right.fence(number, ledger),
+        match self.left.past(bookie) {
+            None => self.left.fence(bookie, ledger),
+            Some(other) => self.right.fence(other, ledger),
         }
     }
 
@@ -67,23 +49,23 @@ impl<L: Group, R: Group> Group for Pair<L, R> {
         ledger: LedgerId,
         entry: EntryId,
     ) -> Result<Option<Held>, GroupFault> {
-        match side_of(self, bookie) {
-            Side::Left(number) => self.left.read(number, ledger, entry),
-            Side::Right(number) => self.right.read(number, ledger, entry),
+        match self.left.past(bookie) {
+            None => self.left.read(bookie, ledger, entry),
+            Some(other) => self.right.read(other, ledger, entry),
         }
     }
 
     fn stop(&mut self, bookie: BookieId) -> Result<(), GroupFault> {
-        match side_of(self, bookie) {
-            Side::Left(number) => self.left.stop(number),
-            Side::Right(number) => self.right.stop(number),
+        match self.left.past(bookie) {
+            None => self.left.stop(bookie),
+            Some(other) => self.right.stop(other),
         }
     }
 
     fn start(&mut self, bookie: BookieId) -> Result<(), GroupFault> {
-        match side_of(self, bookie) {
-            Side::Left(number) => self.left.start(number),
-            Side::Right(number) => self.right.start(number),
+        match self.left.past(bookie) {
+            None => self.left.start(bookie),
+            Some(other) => self.right.start(other),
         }
     }
 }

@@ -2,7 +2,9 @@
 use Rattle.std.proofs.Common.{◌≡◌, ℕ, zero, suc, ◌+◌, ◌*◌, ◌/◌, ◌%◌, ◌^◌, ◌<◌, max, Bool, true, false, cond, eqb, List, [], ◌∷◌, length, get_or, set, sym, refl, ap, ◌∙◌, subst, pow-suc, arith}
 use native.Mathlib.Nat.{pow-succ', div-div-eq-div-mul}
 use lib.Bits.{bit_or, or_step, or_zero_r}
+use Rattle.std.proofs.lemmas.List.{get_or_past}
 use Rattle.journals.specs.Fences.{word, bits, flags}
+use Rattle.journals.proofs.Rows.{row_small, row_is, row_past}
 
 -- the lowest bit of a word and the word of the others
 low : (b : Bool) (x : ℕ) → (cond b 1 0 + x * 2) % 2 ≡ cond b 1 0
@@ -79,3 +81,6 @@ flags_get k w lt = bits_get 16 k w lt
 
 pub flags_set : (fs : List Bool) (k : ℕ) → length fs ≡ 16 → k < 16 → word (set fs k true) ≡ bit_or (word fs) (2 ^ k)
 flags_set fs k long lt = word_set fs k (omega arith)
+
+-- what a ledger's flag is, or that it has none
+pub ruleset reads = (length_flags, flags_get, row_small, row_is, row_past, get_or_past)

@@ -1,6 +1,7 @@
 -- Entries as records, and back.
-use Rattle.std.proofs.Common.{◌≡◌, ℕ, ◌+◌, ◌-◌, ◌*◌, ◌<◌, ◌≤◌, min, true, ◌&&◌, leb, List, [], ◌∷◌, ◌++◌, length, get_or, take, drop, replicate, Some, None, Option, sym, refl, ap, ◌∙◌, append_assoc, append-nil, arith}
-use Rattle.std.proofs.lemmas.List.{take_at, drop_at, drop-replicate, length-append, length-replicate, length-take}
+use Rattle.std.proofs.Common.{◌≡◌, ℕ, ◌+◌, ◌-◌, ◌*◌, ◌<◌, ◌≤◌, min, true, ◌&&◌, leb, List, [], ◌∷◌, ◌++◌, length, take, drop, replicate, Some, None, Option, sym, refl, ap, ◌∙◌, append_assoc, append-nil, arith}
+use Rattle.std.proofs.lemmas.Nat.{from_le_bytes-to_le_bytes_2, from_le_bytes-to_le_bytes_4}
+use Rattle.std.proofs.lemmas.List.{take_at, drop_at, length-append, length-replicate, length-take}
 use Rattle.std.proofs.lemmas.Bool.{and_parts, and_from, leb-true, ltb-true, le-leb, cond-true}
 use Rattle.ledgers.specs.Bodies.{content, body_of, made_body}
 use Rattle.ledgers.specs.declared.bodies.Body.{Body}
@@ -9,29 +10,9 @@ use Rattle.ledgers.specs.Ids.{ledger_id, entry_id, lac_id}
 use Rattle.ledgers.proofs.Same.{content_short, body_of_content}
 use Rattle.messages.specs.declared.entries.Held.{Held}
 use Rattle.protocol.specs.Bookies.{add_fits}
-use Rattle.journals.specs.Numbers.{bytes4, le2, le4}
+use Rattle.journals.specs.Numbers.{le2, le4}
 use Rattle.journals.specs.Records.{record_image, images, record_of, records_of}
 use Rattle.journals.specs.Files.{all_fit}
-use Rattle.journals.proofs.Wholes.{whole2, whole4}
-
--- the array that the code puts together
-pub image_is : (h : Held) {ls bs es cs body copied : List ℕ}
-    → ls ≡ bytes4 h.ledger.0
-    → bs ≡ bytes4 (length body)
-    → es ≡ bytes4 h.entry.0
-    → cs ≡ bytes4 h.lac.0
-    → copied ≡ content h.body
-    → body ≡ content h.body
-    → (get_or ls 0 0 ∷ get_or ls 1 0 ∷ get_or bs 0 0 ∷ get_or bs 1 0
-    ∷ get_or es 0 0 ∷ get_or es 1 0 ∷ get_or es 2 0 ∷ get_or es 3 0
-    ∷ get_or cs 0 0 ∷ get_or cs 1 0 ∷ get_or cs 2 0 ∷ get_or cs 3 0
-    ∷ (copied ++ drop (12 + length body - 12) (replicate 40 0)))
-    ≡ record_image h
-unfolding record_image
-image_is h {ls} {bs} {es} {cs} {body} {copied} l b e c p q =
-    let k : 12 + length (content h.body) - 12 ≡ length (content h.body) = omega arith in
-    let z = drop-replicate {X = ℕ} (length (content h.body)) 40 0 in
-    simp (k, z, l, b, e, c, p, q)
 
 -- what a good answer holds, or else d
 abbrev held_in : Body → Option Body → Body
@@ -81,15 +62,15 @@ image_says h fit =
     let s = small h fit in
     let bytes = content h.body in
     let short = content_short h.body in
-    let n : min 40 (le2 (record_image h) 2) ≡ length bytes = omega (arith, short, whole2 (length bytes) (omega (arith, short))) in
+    let n : min 40 (le2 (record_image h) 2) ≡ length bytes = omega (arith, short, from_le_bytes-to_le_bytes_2 (length bytes) (omega (arith, short))) in
     let t : take (length bytes) (bytes ++ replicate (40 - length bytes) 0) ≡ bytes = take_at bytes _ _ refl in
     let b : body_of (take (min 40 (le2 (record_image h) 2)) (drop 12 (record_image h))) ≡ h.body =
     ap (λ k. body_of (take k (bytes ++ replicate (40 - length bytes) 0))) n ∙ ap body_of t ∙ body_of_content h.body in
     λ i.
     record {
-      ledger = ledger_id (whole2 h.ledger.0 s.ledger i);
-      entry = entry_id (whole4 h.entry.0 s.entry i);
-      lac = lac_id (whole4 h.lac.0 s.lac i);
+      ledger = ledger_id (from_le_bytes-to_le_bytes_2 h.ledger.0 s.ledger i);
+      entry = entry_id (from_le_bytes-to_le_bytes_4 h.entry.0 s.entry i);
+      lac = lac_id (from_le_bytes-to_le_bytes_4 h.lac.0 s.lac i);
       body = b i;
     }
 

@@ -1,5 +1,6 @@
 -- A file that is laid out for entries and fences says them, and keeps the facts of a journal bookie's type.
 use Rattle.std.proofs.Common.{◌≡◌, ℕ, ◌+◌, ◌-◌, ◌/◌, ◌<◌, ◌≤◌, Bool, true, List, ◌++◌, length, drop, replicate, sym, refl, ap, ◌∙◌, subst, arith}
+use Rattle.std.proofs.lemmas.Nat.{from_le_bytes-to_le_bytes_4}
 use Rattle.std.proofs.lemmas.List.{length-append, length-replicate}
 use Rattle.std.proofs.lemmas.Bool.{and_parts, leb-true, eqb-true}
 use Rattle.messages.specs.declared.entries.Held.{Held}
@@ -7,7 +8,6 @@ use Rattle.journals.specs.Numbers.{le4}
 use Rattle.journals.specs.Fences.{word, flags}
 use Rattle.journals.specs.Records.{images, records_of}
 use Rattle.journals.specs.Files.{header_image, laid_out, end_of, space_behind, entries_in, fences_in, space_in, all_fit, fits}
-use Rattle.journals.proofs.Wholes.{whole4}
 use Rattle.journals.proofs.Bits.{flags_word, word_small, length_flags}
 use Rattle.journals.proofs.Images.{length_images, images_say}
 
@@ -15,19 +15,19 @@ use Rattle.journals.proofs.Images.{length_images, images_say}
 module _ (c e w n : ℕ) (rest : List ℕ) where
   header_count : c < 4294967296 → le4 (header_image c e w n ++ rest) 0 ≡ c
   unfolding le4 header_image
-  header_count = whole4 c
+  header_count = from_le_bytes-to_le_bytes_4 c
 
   header_end : e < 4294967296 → le4 (header_image c e w n ++ rest) 4 ≡ e
   unfolding le4 header_image
-  header_end = whole4 e
+  header_end = from_le_bytes-to_le_bytes_4 e
 
   header_fences : w < 4294967296 → le4 (header_image c e w n ++ rest) 8 ≡ w
   unfolding le4 header_image
-  header_fences = whole4 w
+  header_fences = from_le_bytes-to_le_bytes_4 w
 
   header_size : n < 4294967296 → le4 (header_image c e w n ++ rest) 12 ≡ n
   unfolding le4 header_image
-  header_size = whole4 n
+  header_size = from_le_bytes-to_le_bytes_4 n
 
   pub header_rest : drop 32 (header_image c e w n ++ rest) ≡ rest
   unfolding header_image
@@ -65,6 +65,7 @@ pub record Says (f : List ℕ) (n : ℕ) (es : List Held) (fs : List Bool) : Typ
   pub count : le4 f 0 ≡ length es
   pub end : le4 f 4 ≡ end_of es
   pub bits : le4 f 8 ≡ word fs
+  pub size : le4 f 12 ≡ n
   pub rest : drop 32 f ≡ images es ++ replicate (n - end_of es) 0
   pub entries : entries_in f ≡ es
   pub fences : fences_in f ≡ fs
@@ -95,6 +96,7 @@ module _ (n : ℕ) (es : List Held) (fs : List Bool) (fit : Fit n es fs) where
         count = c;
         end = e;
         bits = w;
+        size = s;
         rest = r;
         entries =
             ap (λ k. records_of k (drop 32 (laid_out n es fs))) c ∙ ap (records_of (length es)) r

@@ -1,5 +1,6 @@
-pub mod Wholes
+pub mod Words
 pub mod Bits
+pub mod Rows
 pub mod Parts
 pub mod Images
 pub mod Laid

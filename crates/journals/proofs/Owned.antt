@@ -2,11 +2,12 @@
 use Rattle.std.proofs.Common.{◌≡◌, length, refl}
 use Rattle.protocol.specs.Bookies.{Bookie}
 use Rattle.journals.specs.declared.journal.JournalBookie.{JournalBookie}
-use Rattle.journals.specs.Numbers.{le4}
 use Rattle.journals.specs.Fences.{word, flags}
+use Rattle.journals.specs.Headers.{header_in, header_of}
 use Rattle.journals.specs.Files.{entries_in, fences_in, laid_out}
 use Rattle.journals.specs.Journal.{file_of, ReadsBack}
-use Rattle.journals.proofs.Laid.{Stands, Says, own, says, fit_from}
+use Rattle.journals.proofs.Bits.{flags_word}
+use Rattle.journals.proofs.Laid.{Stands, Says, own, own_fit, says, fit_from}
 
 pub stood : (s : JournalBookie) → Stands (file_of s)
 stood s = record { least = s.least; most = s.most; room = s.room; sound = s.sound; laid = s.laid }
@@ -14,10 +15,16 @@ stood s = record { least = s.least; most = s.most; room = s.room; sound = s.soun
 pub said : (s : JournalBookie) → Says (file_of s) (length (file_of s)) (entries_in (file_of s)) (fences_in (file_of s))
 said s = own (file_of s) (stood s)
 
--- its number of fences has no other bits
-pub fences_whole : (s : JournalBookie) → le4 (file_of s) 8 ≡ word (flags (le4 (file_of s) 8))
-unfolding fences_in
-fences_whole s = (said s).bits
+-- its header is that of its entries and fences
+pub header_owned : (s : JournalBookie) → header_in (file_of s) ≡ header_of (length (file_of s)) (entries_in (file_of s)) (fences_in (file_of s))
+unfolding header_in
+header_owned s =
+    let own = said s in
+    λ i. record { count = own.count i; end = own.end i; fences = own.bits i; size = own.size i }
+
+-- the flags in the number of its fences are its fences
+pub flags_owned : (s : JournalBookie) → flags (word (fences_in (file_of s))) ≡ fences_in (file_of s)
+flags_owned s = flags_word (fences_in (file_of s)) (own_fit (file_of s) (stood s)).all_flags
 
 -- bookies with the same parts are the same
 pub bookie_same : (a b : Bookie) → a.up ≡ b.up → a.entries ≡ b.entries → a.fences ≡ b.fences → a.space ≡ b.space

@@ -1,79 +1,58 @@
-// Numbers, headers and records as bytes, the lowest byte of a number first.
-ghost use Rattle.std.specs.Prelude.{◌≡◌, ◌+◌, ◌≤◌, length};
-ghost use Rattle.journals.specs.Numbers.{le2, le4};
+// Numbers and records as bytes, the lowest byte of a number first.
+ghost use Rattle.std.specs.Prelude.{◌≡◌, ◌+◌, ◌≤◌, ◌++◌, length, take, drop};
+ghost use Rattle.journals.specs.Numbers.{bytes4};
 ghost use Rattle.journals.specs.Records.{record_image, record_of};
-ghost use Rattle.journals.specs.Files.{header_image};
 
 use ledgers::bodies::{Body, MAX_BODY};
 use ledgers::ids::{EntryId, Lac, LedgerId};
 use messages::entries::Held;
 
-pub const HEADER_BYTES: usize = 32;
-
 pub const RECORD_BYTES: usize = 52;
 
-// The number in two bytes.
-pub(crate) fn get2(bytes: &[u8], at: usize) -> u16
-    requires { at + 2 ≤ length bytes.now }
-    ensures { result ≡ le2 bytes.now at }
+// The N bytes from a place on.
+pub(crate) fn bytes_at<const N: usize>(bytes: &[u8], at: usize) -> [u8; N]
+    requires { at + N ≤ length bytes.now }
+    ensures { result ≡ take N (drop at bytes.now) }
 {
-    u16::from_le_bytes([bytes[at], bytes[at + 1]])
+    let mut part = [0; N];
+    part.copy_from_slice(&bytes[at..at + N]);
+    part
 }
 
-// The number in four bytes.
-pub(crate) fn get4(bytes: &[u8], at: usize) -> u32
-    requires { at + 4 ≤ length bytes.now }
-    ensures { result ≡ le4 bytes.now at }
+// Writes a number in four bytes.
+pub(crate) fn put_number(bytes: &mut [u8], at: usize, number: u32)
+    requires { at + 4 ≤ length bytes.old }
+    ensures { bytes.new ≡ take at bytes.old ++ (bytes4 number ++ drop (at + 4) bytes.old) }
 {
-    u32::from_le_bytes([bytes[at], bytes[at + 1], bytes[at + 2], bytes[at + 3]])
-}
-
-// The header of a file.
-pub(crate) fn header(count: u32, end: u32, fences: u32, size: u32) -> [u8; 32]
-    ensures { result ≡ header_image count end fences size }
-{
-    let c = count.to_le_bytes();
-    let e = end.to_le_bytes();
-    let f = fences.to_le_bytes();
-    let s = size.to_le_bytes();
-    [
-        c[0], c[1], c[2], c[3], e[0], e[1], e[2], e[3], f[0], f[1], f[2], f[3], s[0], s[1], s[2],
-        s[3], 0, 0, 0, 0, 0, 0, 0, 0, 0, 0, 0, 0, 0, 0, 0, 0,
-    ]
+    bytes[at..at + 4].copy_from_slice(&number.to_le_bytes());
 }
 
 // The record of an entry.
-pub(crate) fn image(held: &Held) -> [u8; 52]
+pub(crate) fn image(held: &Held) -> [u8; RECORD_BYTES]
     ensures { result ≡ record_image held.now }
 {
     let body = held.body.as_slice();
-    let n = body.len();
-    let l = held.ledger.0.to_le_bytes();
-    let b = (n as u32).to_le_bytes();
-    let e = held.entry.0.to_le_bytes();
-    let c = held.lac.0.to_le_bytes();
-    let mut out = [
-        l[0], l[1], b[0], b[1], e[0], e[1], e[2], e[3], c[0], c[1], c[2], c[3], 0, 0, 0, 0, 0, 0,
-        0, 0, 0, 0, 0, 0, 0, 0, 0, 0, 0, 0, 0, 0, 0, 0, 0, 0, 0, 0, 0, 0, 0, 0, 0, 0, 0, 0, 0, 0,
-        0, 0, 0, 0,
-    ];
-    out[12..12 + n].copy_from_slice(body);
-    out
+    let mut bytes = [0; RECORD_BYTES];
+    bytes[0..2].copy_from_slice(&held.ledger.0.to_le_bytes()[0..2]);
+    bytes[2..4].copy_from_slice(&(body.len() as u16).to_le_bytes());
+    put_number(&mut bytes, 4, held.entry.0);
+    put_number(&mut bytes, 8, held.lac.0);
+    bytes[12..12 + body.len()].copy_from_slice(body);
+    bytes
 }
 
 // The entry in a record.
-pub(crate) fn record_in(part: &[u8]) -> Held
-    requires { length part.now ≡ 52 }
-    ensures { result ≡ record_of part.now }
+pub(crate) fn record_in(bytes: &[u8; RECORD_BYTES]) -> Held
+    ensures { result ≡ record_of bytes.now }
 {
-    let n = MAX_BODY.min(get2(part, 2) as usize);
-    let Some(body) = Body::new(&part[12..12 + n]) else {
+    let length = u16::from_le_bytes(bytes_at(bytes, 2)) as usize;
+    let Some(body) = Body::new(&bytes[12..12 + MAX_BODY.min(length)]) else {
         unreachable()
     };
     Held {
-        ledger: LedgerId(get2(part, 0) as u32),
-        entry: EntryId(get4(part, 4)),
-        lac: Lac(get4(part, 8)),
+        ledger: LedgerId(u32::from(u16::from_le_bytes(bytes_at(bytes, 0)))),
+        entry: EntryId(u32::from_le_bytes(bytes_at(bytes, 4))),
+        lac: Lac(u32::from_le_bytes(bytes_at(bytes, 8))),
         body,
     }
 }

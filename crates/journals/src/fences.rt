@@ -3,15 +3,13 @@ ghost use Rattle.std.specs.Prelude.{◌≡◌, true, false};
 ghost use Rattle.ledgers.specs.Tables.{numbered, renumbered};
 ghost use Rattle.journals.specs.Fences.{flags, word};
 
-use ledgers::ids::{LedgerId, MAX_LEDGERS};
+use ledgers::ids::LedgerId;
 
+#[tactic(auto, using(crate::proofs::Bits::reads))]
 pub(crate) fn has_fence(bits: u32, ledger: LedgerId) -> bool
     ensures { result ≡ numbered (flags bits) ledger.0 false }
 {
-    if ledger.0 < 1 || ledger.0 > MAX_LEDGERS {
-        return false;
-    }
-    (bits >> (ledger.0 - 1)) % 2 == 1
+    ledger.row().is_some_and(|row| (bits >> row) % 2 == 1)
 }
 
 // The number with one fence more, where none but those of the ledgers are set.
@@ -19,8 +17,8 @@ pub(crate) fn with_fence(bits: u32, ledger: LedgerId) -> u32
     requires { bits ≡ word (flags bits) }
     ensures { result ≡ word (renumbered (flags bits) ledger.0 true) }
 {
-    if ledger.0 < 1 || ledger.0 > MAX_LEDGERS {
-        return bits;
+    match ledger.row() {
+        Some(row) => bits | (1 << row),
+        None => bits,
     }
-    bits | (1 << (ledger.0 - 1))
 }

@@ -1,57 +1,37 @@
 // The way to a new journal bookie over lent bytes.
-ghost use Rattle.std.specs.Prelude.{◌≡◌, false, length};
-ghost use Rattle.protocol.specs.Bookies.{Bookie};
-ghost use Rattle.journals.specs.Files.{size_fits};
-ghost use Rattle.journals.specs.Journal.{in_journal};
-ghost use Rattle.journals.specs.SetUp.{SetUp, set_up_number};
+ghost use Rattle.std.specs.Prelude.{◌≡◌, false, [], length, replicate};
+ghost use Rattle.std.specs.Fn.{FnOnceReturnsAtMut};
+ghost use Rattle.journals.specs.declared.journal.JournalBookie.{JournalBookie};
+ghost use Rattle.journals.specs.Files.{laid_out, size_fits};
+ghost use Rattle.journals.specs.Journal.{file_of, in_journal};
+ghost use Rattle.journals.specs.SetUp.{SetUp};
 
 use crate::journal::JournalBookie;
+use messages::faults::SetUpFault;
 
 // The sizes that a journal can have; the lesser has room for one record.
 pub const MIN_JOURNAL_BYTES: usize = 84;
 
 pub const MAX_JOURNAL_BYTES: usize = 65536;
 
-// Why nothing is set up: 15.
-#[derive(Clone, Copy)]
-pub enum SetUpFault {
-    // The memory has a size that a journal cannot have.
-    Size,
-}
-
-impl SetUpFault {
-    pub fn number(self) -> u32
-        ensures { result ≡ set_up_number self }
-    {
-        match self {
-            SetUpFault::Size => 15,
-        }
-    }
-}
-
-// Who works with a journal bookie once it is set up. A bookie cannot be handed out in a `Result`, since its type has
-// facts about memory that is only lent; so the work comes to the bookie.
-pub trait JournalUser {
-    type Answer;
-    // What it promises of its answer, by what the bookie means when it gets it.
-    ghost promises: { Self → Bookie → Self.Answer → Type 0 };
-
-    fn work(self, bookie: &mut JournalBookie<'_>) -> Self::Answer
-        ensures { promises self (in_journal bookie.old) result };
-}
-
-// Sets a new journal bookie up over the memory and lets the user work with it; memory of the wrong size is refused and
-// stays as it is.
-pub fn with_journal<U: JournalUser + Drop>(
+// Sets a new journal bookie up over the memory and does the work with it; memory of the wrong size is refused and stays
+// as it is. The bookie comes to the work, since a `Result` of it could not promise that refused memory stays.
+pub fn with_journal<R, F: FnOnce(&mut JournalBookie<'_>) -> R + Drop>(
     file: &mut [u8],
-    user: U,
-) -> Result<U::Answer, SetUpFault>
-    ensures answer { SetUp (U.promises user) (length file.old) result }
+    work: F,
+) -> Result<R, SetUpFault>
+    requires { F.IsAlwaysCallable work }
+    ensures answer { SetUp
+        (λ means answer. (before : JournalBookie) × (after : JournalBookie)
+        × (in_journal before ≡ means)
+        × (file_of before ≡ laid_out (length file.old) [] (replicate 16 false))
+        × FnOnceReturnsAtMut F.FnOnce work before answer after)
+        (length file.old) result }
     ensures refused { size_fits (length file.old) ≡ false → file.new ≡ file.old }
 {
-    if file.len() < MIN_JOURNAL_BYTES || file.len() > MAX_JOURNAL_BYTES {
-        return Err(SetUpFault::Size);
+    if !(MIN_JOURNAL_BYTES..=MAX_JOURNAL_BYTES).contains(&file.len()) {
+        return Err(SetUpFault::JournalSize);
     }
     let mut bookie = JournalBookie::new(file);
-    Ok(user.work(&mut bookie))
+    Ok(work(&mut bookie))
 }

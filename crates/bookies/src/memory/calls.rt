@@ -5,8 +5,6 @@ ghost use Rattle.bookies.specs.Memory.{in_memory};
 
 use super::MemoryBookie;
 use crate::fences::{is_raised, raise};
-use crate::interface::Bookie;
-use crate::questions;
 use crate::searches::{find, highest};
 use crate::storage::Storage;
 use ledgers::ids::{EntryId, Lac, LedgerId};
@@ -33,6 +31,7 @@ impl<'a> MemoryBookie<'a> {
     }
 
     // Writes an entry into the first free record.
+    #[tactic(auto, using(std::proofs::lemmas::List::take_more_set))]
     fn write(&mut self, held: Held)
         requires { self.old.count < length self.old.records.now }
         ensures { in_memory self.new ≡ holding (in_memory self.old) held }
@@ -55,59 +54,26 @@ impl<'a> Storage for MemoryBookie<'a> {
     }
 
     fn copy_of(&self, ledger: LedgerId, number: EntryId) -> Option<Held> {
-        find(&self.records[0..self.count], ledger, number)
+        find(self.records[..self.count].iter().copied(), ledger, number)
     }
 
     fn highest_lac(&self, ledger: LedgerId) -> Lac {
-        highest(&self.records[0..self.count], ledger)
+        highest(self.records[..self.count].iter().copied(), ledger)
     }
 
-    fn keep(&mut self, held: Held) -> bool {
+    fn keep(&mut self, held: Held) -> Result<(), BookieFault> {
         if !self.has_space() {
-            return false;
+            return Err(BookieFault::Full);
         }
         self.write(held);
-        true
+        Ok(())
     }
 
     fn mark_fenced(&mut self, ledger: LedgerId) {
         raise(&mut self.fenced, ledger);
     }
-}
 
-impl<'a> Bookie for MemoryBookie<'a> {
-    ghost entries = { λ s. (in_memory s).entries };
-
-    ghost fences = { λ s. (in_memory s).fences };
-
-    ghost space = { λ s. (in_memory s).space };
-
-    ghost up = { λ s. (in_memory s).up };
-
-    fn add(
-        &mut self,
-        ledger: LedgerId,
-        entry: EntryId,
-        lac: Lac,
-        body: &[u8],
-        recovery: bool,
-    ) -> Result<(), BookieFault> {
-        questions::add(self, ledger, entry, lac, body, recovery)
-    }
-
-    fn fence(&mut self, ledger: LedgerId) -> Result<Lac, BookieFault> {
-        questions::fence(self, ledger)
-    }
-
-    fn read(&self, ledger: LedgerId, entry: EntryId) -> Result<Option<Held>, BookieFault> {
-        questions::read(self, ledger, entry)
-    }
-
-    fn stop(&mut self) {
-        self.up = false;
-    }
-
-    fn start(&mut self) {
-        self.up = true;
+    fn turn(&mut self, up: bool) {
+        self.up = up;
     }
 }

@@ -1,26 +1,21 @@
 // A journal bookie is set up, shows its file, and is a bookie.
-ghost use Rattle.std.specs.Prelude.{◌≡◌, ◌≤◌, true, false, [], length, replicate};
+ghost use Rattle.std.specs.Prelude.{◌≡◌, ◌≤◌, true, false, [], length, map, replicate};
 ghost use Rattle.protocol.specs.Bookies.{add_fits, holding, new_bookie};
 ghost use Rattle.journals.specs.Files.{laid_out, size_fits, space_behind};
+ghost use Rattle.journals.specs.Headers.{header_of};
+ghost use Rattle.journals.specs.Records.{record_of};
 ghost use Rattle.journals.specs.Journal.{file_of, in_journal};
 
 use super::JournalBookie;
-use crate::bytes::{HEADER_BYTES, RECORD_BYTES};
+use crate::bytes::{RECORD_BYTES, record_in};
 use crate::fences::{has_fence, with_fence};
-use crate::files::{JournalFile, find_in, highest_in};
-use bookies::interface::Bookie;
-use bookies::questions;
+use crate::files::JournalFile;
+use crate::headers::{HEADER_BYTES, Header};
+use bookies::searches::{find, highest};
 use bookies::storage::Storage;
 use ledgers::ids::{EntryId, Lac, LedgerId};
 use messages::entries::Held;
 use messages::faults::BookieFault;
-
-// Where the header has its numbers.
-const COUNT_AT: usize = 0;
-
-const END_AT: usize = 4;
-
-const FENCES_AT: usize = 8;
 
 impl<'a> JournalBookie<'a> {
     // A new bookie in a file of a size that a journal can have.
@@ -29,9 +24,15 @@ impl<'a> JournalBookie<'a> {
         ensures means { in_journal result ≡ new_bookie (space_behind (length file.old) []) }
         ensures bytes { file_of result ≡ laid_out (length file.old) [] (replicate 16 false) }
     {
+        let size = file.len() as u32;
         let mut journal = JournalFile { file };
         journal.clear();
-        journal.write_header(0, 32, 0);
+        journal.write_header(Header {
+            count: 0,
+            end: HEADER_BYTES as u32,
+            fences: 0,
+            size,
+        });
         JournalBookie { journal, up: true }
     }
 
@@ -51,22 +52,43 @@ impl<'a> JournalBookie<'a> {
         &self.journal.bytes()[..]
     }
 
+    // The header of its file: that of its entries and fences.
+    #[tactic(auto, using(crate::proofs::Owned::header_owned))]
+    fn header(&self) -> Header
+        ensures { result ≡ header_of (length (file_of self.now)) (in_journal self.now).entries (in_journal self.now).fences }
+    {
+        self.journal.header()
+    }
+
+    // The records of its entries.
+    #[tactic(auto, using(crate::proofs::Owned::said))]
+    fn records(&self) -> &[[u8; RECORD_BYTES]]
+        ensures { map record_of result.now ≡ (in_journal self.now).entries }
+    {
+        self.journal.records()
+    }
+
     // How many whole records still fit.
+    #[tactic(auto, using(crate::proofs::Owned::said))]
     fn space(&self) -> usize
         ensures { result ≡ (in_journal self.now).space }
     {
-        (self.journal.file.len() - self.journal.number(END_AT) as usize) / RECORD_BYTES
+        let header = self.header();
+        (header.size - header.end) as usize / RECORD_BYTES
     }
 
-    // Writes the record of one entry more, which there is space for.
+    // Writes the record of one entry more, which there is space for, at the free end, and then the header.
     fn write(&mut self, held: Held)
         requires { (add_fits held.ledger held.entry held.lac ≡ true) × (1 ≤ (in_journal self.old).space) }
         ensures { in_journal self.new ≡ holding (in_journal self.old) held }
     {
-        let count = self.journal.number(COUNT_AT);
-        let end = self.journal.number(END_AT);
-        let fences = self.journal.number(FENCES_AT);
-        self.journal.append(count, end, fences, &held);
+        let header = self.header();
+        self.journal.write_record(header.end as usize, &held);
+        self.journal.write_header(Header {
+            count: header.count + 1,
+            end: header.end + RECORD_BYTES as u32,
+            ..header
+        });
     }
 }
 
@@ -77,70 +99,37 @@ impl<'a> Storage for JournalBookie<'a> {
         self.up
     }
 
+    #[tactic(auto, using(crate::proofs::Owned::flags_owned))]
     fn is_fenced(&self, ledger: LedgerId) -> bool {
-        has_fence(self.journal.number(FENCES_AT), ledger)
+        has_fence(self.header().fences, ledger)
     }
 
     fn copy_of(&self, ledger: LedgerId, number: EntryId) -> Option<Held> {
-        let count = self.journal.number(COUNT_AT) as usize;
-        find_in(&self.journal.file[HEADER_BYTES..], count, ledger, number)
+        find(self.records().iter().map(record_in), ledger, number)
     }
 
     fn highest_lac(&self, ledger: LedgerId) -> Lac {
-        let count = self.journal.number(COUNT_AT) as usize;
-        highest_in(&self.journal.file[HEADER_BYTES..], count, ledger)
+        highest(self.records().iter().map(record_in), ledger)
     }
 
-    fn keep(&mut self, held: Held) -> bool {
+    fn keep(&mut self, held: Held) -> Result<(), BookieFault> {
         if self.space() < 1 {
-            return false;
+            return Err(BookieFault::Full);
         }
         self.write(held);
-        true
+        Ok(())
     }
 
     // A fence writes the header alone.
     fn mark_fenced(&mut self, ledger: LedgerId) {
-        let count = self.journal.number(COUNT_AT);
-        let end = self.journal.number(END_AT);
-        let fences = with_fence(self.journal.number(FENCES_AT), ledger);
-        self.journal.write_header(count, end, fences);
-    }
-}
-
-impl<'a> Bookie for JournalBookie<'a> {
-    ghost entries = { λ s. (in_journal s).entries };
-
-    ghost fences = { λ s. (in_journal s).fences };
-
-    ghost space = { λ s. (in_journal s).space };
-
-    ghost up = { λ s. (in_journal s).up };
-
-    fn add(
-        &mut self,
-        ledger: LedgerId,
-        entry: EntryId,
-        lac: Lac,
-        body: &[u8],
-        recovery: bool,
-    ) -> Result<(), BookieFault> {
-        questions::add(self, ledger, entry, lac, body, recovery)
+        let header = self.header();
+        self.journal.write_header(Header {
+            fences: with_fence(header.fences, ledger),
+            ..header
+        });
     }
 
-    fn fence(&mut self, ledger: LedgerId) -> Result<Lac, BookieFault> {
-        questions::fence(self, ledger)
-    }
-
-    fn read(&self, ledger: LedgerId, entry: EntryId) -> Result<Option<Held>, BookieFault> {
-        questions::read(self, ledger, entry)
-    }
-
-    fn stop(&mut self) {
-        self.up = false;
-    }
-
-    fn start(&mut self) {
-        self.up = true;
+    fn turn(&mut self, up: bool) {
+        self.up = up;
     }
 }

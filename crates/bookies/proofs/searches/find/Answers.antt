@@ -1,21 +1,17 @@
-use Rattle.std.proofs.Common.{arith}
-use Rattle.std.proofs.lemmas.Bool.Decides.{nat_tests}
-use Rattle.std.proofs.lemmas.List.{at_drop_all}
-use Rattle.protocol.specs.Bookies.{find}
-use Rattle.bookies.proofs.Searching.{find_step}
+use Rattle.std.proofs.Common.{◌∙◌, sym, rules, tests}
+use Rattle.std.proofs.lemmas.Iterator.{YieldsList}
+use Rattle.std.proofs.lemmas.Iterator.Adapters.{option_map_id}
+use Rattle.std.proofs.lemmas.Iterator.Search.{find_from_yields_List}
+use Rattle.protocol.specs.Bookies.{is_copy}
+use Rattle.bookies.proofs.Searching.{find_copy}
 use Rattle.bookies.proofs.searches.find.Goals as goal
 
-pub returns-then-held-number : goal.returns-then-held-number
-returns-then-held-number c =
-    let s = find_step _ _ _ c.loop-held-test.true c.held-item.is c.args.ledger.0 c.args.number.0 in
-    grind (arith, nat_tests)
-
-pub loop-held-preserved : goal.loop-held-preserved
-loop-held-preserved c =
-    let s = find_step _ _ _ c.loop-held-test.true c.held-item.is c.args.ledger.0 c.args.number.0 in
-    grind (arith, nat_tests)
-
 pub returns : goal.returns
-returns c =
-    let s = at_drop_all (λ ys. find ys c.args.ledger.0 c.args.number.0) _ _ c.loop-held-test.false in
-    grind arith
+returns g c =
+    λ all given.
+    let l = c.args.ledger.0 in
+    let e = c.args.number.0 in
+    let road : YieldsList g.I.Iterator.next_gives (λ h. h) c.args.entries all = record { runs = given } in
+    sym (option_map_id c.find.result)
+    ∙ find_from_yields_List {steps = g.I.Iterator.next_gives} {s = c.args.entries} (λ h. is_copy h l e) _ _ c.find.result c.find.ensures.ran road (λ x b q k. search (rules, tests))
+    ∙ find_copy l e all

@@ -1,14 +1,7 @@
-use Rattle.std.proofs.Common.{ℕ, length, refl, ap, ◌∙◌, arith, rules}
-use lib.ListN.{length-replicate}
-use Rattle.std.proofs.lemmas.Bool.Decides.{nat_tests}
+use Rattle.std.proofs.Common.{refl, rules}
 use Rattle.journals.proofs.Owned.{bookie_same}
 use Rattle.journals.proofs.Writes.{new_written}
 use Rattle.journals.proofs.journal.JournalBookie.new.Goals as goal
-
-pub write_header-requires : goal.write_header-requires
-write_header-requires c =
-    let long = ap length c.clear.ensures ∙ length-replicate {A = ℕ} (length c.args.file.now) 0 in
-    (grind (arith, nat_tests), grind (arith, nat_tests))
 
 pub invariant_of-result : goal.invariant_of-result
 invariant_of-result c =

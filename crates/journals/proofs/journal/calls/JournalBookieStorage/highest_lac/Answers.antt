@@ -1,18 +1,11 @@
-use Rattle.std.proofs.Common.{arith, length-drop}
-use Rattle.std.proofs.lemmas.List.{take_rest}
-use Rattle.journals.specs.Files.{entries_in}
-use Rattle.journals.proofs.Owned.{said}
+use Rattle.std.proofs.Common.{ap, ◌∙◌, rules}
+use Rattle.std.proofs.lemmas.Iterator.{YieldsList-from_map, YieldsList-from_slice}
+use Rattle.std.proofs.lemmas.Iterator.Consumers.{YieldsList-at}
+use Rattle.protocol.specs.Bookies.{highest_lac}
+use Rattle.journals.specs.Records.{record_of}
 use Rattle.journals.proofs.journal.calls.JournalBookieStorage.highest_lac.Goals as goal
 
-pub highest_in-requires : goal.highest_in-requires
-highest_in-requires c =
-    let s = c.args.self.now in
-    let rest = take_rest s.journal.file.now 32 in
-    let long = length-drop 32 s.journal.file.now in
-    let count = (said s).count in
-    let room = s.room in
-    grind arith
-
 pub returns : goal.returns
-unfolding entries_in
-returns c = let rest = take_rest c.args.self.now.journal.file.now 32 in grind arith
+returns c =
+    c.highest.ensures _ (YieldsList-from_map _ record_of (YieldsList-at c.map.ensures.source (YieldsList-from_slice _ c.iter.ensures.rest)) c.map.ensures.closure (λ x r q k. search rules)).runs
+    ∙ ap (λ es. highest_lac es c.args.ledger.0) c.records.ensures
