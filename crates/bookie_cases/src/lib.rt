@@ -13,6 +13,7 @@ mod tests {
     use ledgers::bodies::Body;
     use ledgers::ids::{BookieId, EntryId, Lac, LedgerId};
     use messages::entries::Held;
+    use places::Blank;
     use std::test::*;
 
     const LONG: [u8; 41] = [32; 41];
@@ -75,21 +76,9 @@ mod tests {
         in_order(bookie)
     }
 
-    fn blank() -> Held {
-        let Some(body) = Body::new(b"") else {
-            unreachable()
-        };
-        Held {
-            ledger: LedgerId(0),
-            entry: EntryId(0),
-            lac: Lac(0),
-            body,
-        }
-    }
-
     #[test]
     fn a_memory_bookie_puts_its_questions_in_order(rt: HostRuntime) -> Result<(), Fail> {
-        let mut records = [blank(); 1];
+        let mut records = [Held::blank(); 1];
         let mut bookie = MemoryBookie::new(&mut records);
         all_answers(&mut bookie)
     }
@@ -143,7 +132,7 @@ mod tests {
 
     #[test]
     fn a_group_calls_its_bookies_by_number(rt: HostRuntime) -> Result<(), Fail> {
-        let mut records = [blank(); 1];
+        let mut records = [Held::blank(); 1];
         let mut file = [0; 16384];
         let mut first = MemoryBookie::new(&mut records);
         let mut second = JournalBookie::standard(&mut file);

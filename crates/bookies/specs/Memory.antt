@@ -1,14 +1,15 @@
 -- What a bookie in memory means.
-use Rattle.std.specs.Prelude.{◌-◌, length, take}
+use Rattle.std.specs.Prelude.{◌-◌, length}
+use Rattle.places.specs.LentLists.{records, room}
 use Rattle.protocol.specs.Bookies.{Bookie}
 use Rattle.bookies.specs.declared.memory.MemoryBookie.{MemoryBookie}
 
--- its first records are the entries, and the others the space
+-- its records are the entries, and the places behind them the space
 abbrev pub in_memory : MemoryBookie → Bookie
 in_memory s =
     record {
       up = s.up;
-      entries = take s.count s.records.now;
+      entries = records s.entries;
       fences = s.fenced;
-      space = length s.records.now - s.count;
+      space = room s.entries - length (records s.entries);
     }

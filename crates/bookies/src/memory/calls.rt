@@ -1,6 +1,6 @@
 // A memory bookie is set up, and is a bookie.
-ghost use Rattle.std.specs.Prelude.{◌≡◌, ◌<◌, length, nat_le};
-ghost use Rattle.protocol.specs.Bookies.{new_bookie, holding};
+ghost use Rattle.std.specs.Prelude.{◌≡◌, length};
+ghost use Rattle.protocol.specs.Bookies.{new_bookie};
 ghost use Rattle.bookies.specs.Memory.{in_memory};
 
 use super::MemoryBookie;
@@ -10,6 +10,7 @@ use crate::storage::Storage;
 use ledgers::ids::{EntryId, Lac, LedgerId};
 use messages::entries::Held;
 use messages::faults::BookieFault;
+use places::lent_lists::LentList;
 
 impl<'a> MemoryBookie<'a> {
     // A new bookie that can take as many entries as there are records.
@@ -17,28 +18,10 @@ impl<'a> MemoryBookie<'a> {
         ensures { in_memory result ≡ new_bookie (length records.old) }
     {
         MemoryBookie {
-            records,
-            count: 0,
+            entries: LentList::new(records),
             fenced: [false; 16],
             up: true,
         }
-    }
-
-    fn has_space(&self) -> bool
-        ensures { result ≡ nat_le 1 (in_memory self.now).space }
-    {
-        self.count < self.records.len()
-    }
-
-    // Writes an entry into the first free record.
-    #[tactic(auto, using(std::proofs::lemmas::List::take_more_set))]
-    fn write(&mut self, held: Held)
-        requires { self.old.count < length self.old.records.now }
-        ensures { in_memory self.new ≡ holding (in_memory self.old) held }
-    {
-        let at = self.count;
-        self.records[at] = held;
-        self.count = at + 1;
     }
 }
 
@@ -54,18 +37,18 @@ impl<'a> Storage for MemoryBookie<'a> {
     }
 
     fn copy_of(&self, ledger: LedgerId, number: EntryId) -> Option<Held> {
-        find(self.records[..self.count].iter().copied(), ledger, number)
+        find(self.entries.as_slice().iter().copied(), ledger, number)
     }
 
     fn highest_lac(&self, ledger: LedgerId) -> Lac {
-        highest(self.records[..self.count].iter().copied(), ledger)
+        highest(self.entries.as_slice().iter().copied(), ledger)
     }
 
     fn keep(&mut self, held: Held) -> Result<(), BookieFault> {
-        if !self.has_space() {
+        if !self.entries.has_room() {
             return Err(BookieFault::Full);
         }
-        self.write(held);
+        self.entries.push(held);
         Ok(())
     }
 

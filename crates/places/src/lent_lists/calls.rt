@@ -1,5 +1,5 @@
 // What a lent list can be asked, and how it changes.
-ghost use Rattle.std.specs.Prelude.{◌≡◌, [], length, slice_set};
+ghost use Rattle.std.specs.Prelude.{◌≡◌, [], length, slice_set, nat_lt};
 ghost use Rattle.places.specs.Lists.{posted};
 ghost use Rattle.places.specs.LentLists.{records, room, record_at, without_at};
 
@@ -21,6 +21,13 @@ impl<'a, T: Blank + Copy> LentList<'a, T> {
         ensures { result ≡ length (records self.now) }
     {
         self.as_slice().len()
+    }
+
+    // Whether a place is free for one record more.
+    pub fn has_room(&self) -> bool
+        ensures { result ≡ nat_lt (length (records self.now)) (room self.now) }
+    {
+        self.count < self.places.len()
     }
 
     // The records.

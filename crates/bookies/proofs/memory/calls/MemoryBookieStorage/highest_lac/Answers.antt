@@ -1,6 +1,10 @@
+use Rattle.std.proofs.Common.{ap, ◌∙◌}
 use Rattle.std.proofs.lemmas.Iterator.{YieldsList-from_slice}
 use Rattle.std.proofs.lemmas.Iterator.Consumers.{YieldsList-from_copied, YieldsList-at}
+use Rattle.protocol.specs.Bookies.{highest_lac}
 use Rattle.bookies.proofs.memory.calls.MemoryBookieStorage.highest_lac.Goals as goal
 
 pub returns : goal.returns
-returns c = c.highest.ensures _ (YieldsList-from_copied (YieldsList-at c.copied.ensures.source (YieldsList-from_slice _ c.iter.ensures.rest))).runs
+returns c =
+    c.highest.ensures _ (YieldsList-from_copied (YieldsList-at c.copied.ensures.source (YieldsList-from_slice _ c.iter.ensures.rest))).runs
+    ∙ ap (λ xs. highest_lac xs c.args.ledger.0) c.as_slice.ensures
