@@ -1,8 +1,9 @@
 -- What a chronicle means.
-use Rattle.std.specs.Prelude.{◌≡◌, ℕ, ◌-◌, ◌<◌, ◌≤◌, min, List, [], ◌∷◌, ◌++◌, length, take, Ok, Err, Result, slice_set}
+use Rattle.std.specs.Prelude.{◌≡◌, ℕ, ◌-◌, ◌<◌, ◌≤◌, min, List, [], ◌∷◌, ◌++◌, length, Ok, Err, Result, slice_set}
 use Rattle.ledgers.specs.declared.ids.Lac.{Lac}
 use Rattle.ledgers.specs.declared.ids.LedgerId.{LedgerId}
 use Rattle.layout.specs.declared.fragments.Layout.{Layout}
+use Rattle.places.specs.LentLists.{records, room}
 use Rattle.messages.specs.Faults.{when_ok}
 use Rattle.messages.specs.declared.faults.SetUpFault.{SetUpFault}
 use Rattle.messages.specs.declared.faults.SetUpFault.TheVariants.{ChroniclePlaces}
@@ -19,11 +20,11 @@ max_changes = 60000
 
 -- the changes that it accepted, in order
 abbrev pub history : Chronicle → List Change
-history c = take c.made c.places.now
+history c = records c.changes
 
 -- it keeps what they leave, and can take one for each place behind them
 abbrev pub in_chronicle : Chronicle → Store
-in_chronicle c = record { ledgers = replayed (history c); changes = min max_changes (length c.places.now) - c.made }
+in_chronicle c = record { ledgers = replayed (history c); changes = min max_changes (room c.changes) - length (history c) }
 
 -- the change that sets a ledger's record
 abbrev pub change_to : LedgerId → LedgerState → Layout → Lac → Change
@@ -35,7 +36,7 @@ history_after r c x = when_ok r (history c ++ (x ∷ [])) (history c)
 
 -- it writes the first place that no change stands in, and no other
 abbrev pub places_after : {A F : Type 0} → Result A F → Chronicle → Change → List Change
-places_after r c x = when_ok r (slice_set c.places.now c.made x) c.places.now
+places_after r c x = when_ok r (slice_set c.changes.places.now (length (history c)) x) c.changes.places.now
 
 -- n places make a new store with n changes, and more than 60,000 are refused
 abbrev pub SetUp : ℕ → Result Chronicle SetUpFault → Type 0

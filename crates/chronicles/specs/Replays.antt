@@ -1,12 +1,18 @@
 -- The records that changes leave, one after another.
 use Rattle.std.specs.Prelude.{◌≡◌, ℕ, suc, Bool, true, List, replicate, Some, None, fold, Option, ◌==◌}
 use Rattle.ledgers.specs.Limits.{max_ledgers, is_ledger}
-use Rattle.ledgers.specs.Ids.{version_id}
+use Rattle.ledgers.specs.Ids.{lac_id, ledger_id, version_id}
 use Rattle.ledgers.specs.Tables.{numbered, renumbered}
 use Rattle.layout.specs.WriteSets.{tally}
+use Rattle.layout.specs.Layouts.{no_layout}
+use Rattle.messages.specs.declared.metadata.LedgerState.TheVariants.{Open}
 use Rattle.messages.specs.declared.metadata.Metadata.{Metadata}
 use Rattle.protocol.specs.Stores.{Store, known, metadata_of}
 use Rattle.chronicles.specs.declared.changes.Change.{Change}
+
+-- the blank change, of no ledger
+abbrev pub no_change : Change
+no_change = record { ledger = ledger_id 0; state = Open; layout = no_layout; closing = lac_id 0 }
 
 -- a ledger's metadata after a change: the next version, 1 where nothing was kept before
 abbrev pub noted : Option Metadata → Change → Metadata

@@ -2,11 +2,12 @@
 ghost use Rattle.std.specs.Prelude.{◌≡◌, ◌<◌, length, None};
 ghost use Rattle.ledgers.specs.Tables.{numbered};
 ghost use Rattle.protocol.specs.Stores.{known};
-ghost use Rattle.chronicles.specs.Replays.{noted, replayed};
+ghost use Rattle.chronicles.specs.Replays.{no_change, noted, replayed};
 
 use layout::fragments::Layout;
 use ledgers::ids::{Lac, LedgerId, Version};
 use messages::metadata::{LedgerState, Metadata};
+use places::Blank;
 
 // What the ledger's record is from then on. The version is not noted: it is how many changes of the ledger there are.
 #[derive(Clone, Copy)]
@@ -15,6 +16,19 @@ pub struct Change {
     pub state: LedgerState,
     pub layout: Layout,
     pub closing: Lac,
+}
+
+impl Blank for Change {
+    ghost empty = { no_change };
+
+    fn blank() -> Change {
+        Change {
+            ledger: LedgerId(0),
+            state: LedgerState::Open,
+            layout: Layout::blank(),
+            closing: Lac(0),
+        }
+    }
 }
 
 impl Change {

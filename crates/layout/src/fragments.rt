@@ -19,12 +19,14 @@ pub struct Fragment {
 pub struct Layout {
     sizes: Sizes,
     fragments: [Fragment; 8],
-    // The first so many of them count: one at least, since every entry belongs to a fragment.
+    // The first so many of them count: one at least, since every entry belongs to a fragment. No `ShortList`: the last one is
+    // changed in place, and a list that may be empty would leave each question for the last one without an answer.
     count: usize,
     ghost eight: { length fragments ≡ 8 },
     ghost some: { 1 ≤ count },
     ghost few: { count ≤ 8 },
 }
 
+pub mod blanks;
 pub mod changing;
 pub mod reading;

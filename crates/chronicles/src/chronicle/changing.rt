@@ -6,16 +6,18 @@ ghost use Rattle.chronicles.specs.Replays.{Complete};
 use super::{Chronicle, MAX_CHANGES};
 use crate::changes::Change;
 use messages::faults::SetUpFault;
+use places::lent_lists::LentList;
 
 impl<'a> Chronicle<'a> {
-    // A chronicle without a change. What the places hold means nothing.
+    // A chronicle without a change. What the places held before means nothing.
     pub fn new(places: &'a mut [Change]) -> Result<Chronicle<'a>, SetUpFault>
         ensures { SetUp (length places.old) result }
     {
         if places.len() > MAX_CHANGES {
             return Err(SetUpFault::ChroniclePlaces);
         }
-        Ok(Chronicle { places, made: 0 })
+        let changes = LentList::new(places);
+        Ok(Chronicle { changes })
     }
 
     // Every change that was ever accepted, in order. No version of a ledger is missing.
@@ -23,6 +25,6 @@ impl<'a> Chronicle<'a> {
         ensures value { result.now ≡ history self.now }
         ensures complete { Complete (in_chronicle self.now) result.now }
     {
-        &self.places[..self.made as usize]
+        self.changes.as_slice()
     }
 }

@@ -1,5 +1,5 @@
 // A chronicle as a store.
-ghost use Rattle.std.specs.Prelude.{◌≡◌, suc, ◌≤◌, [], ◌∷◌, ◌++◌, nat_le, slice_set};
+ghost use Rattle.std.specs.Prelude.{◌≡◌, suc, ◌≤◌, [], ◌∷◌, ◌++◌, length, nat_le, slice_set};
 ghost use Rattle.messages.specs.declared.metadata.LedgerState.TheVariants.{Open};
 ghost use Rattle.ledgers.specs.Ids.{lac_id};
 ghost use Rattle.protocol.specs.Stores.{kept, known, written, create_answer, create_after, put_answer, put_after};
@@ -18,7 +18,7 @@ impl Chronicle<'_> {
     // What is kept of a ledger; its version is not above the number of changes.
     fn kept(&self, ledger: LedgerId) -> Option<Metadata>
         ensures value { result ≡ kept (in_chronicle self.now) ledger.0 }
-        ensures version { (known result).version.0 ≤ self.now.made }
+        ensures version { (known result).version.0 ≤ length (history self.now) }
     {
         latest(self.changes(), ledger)
     }
@@ -27,7 +27,7 @@ impl Chronicle<'_> {
     fn has_room(&self) -> bool
         ensures { result ≡ nat_le 1 (in_chronicle self.now).changes }
     {
-        (self.made as usize) < self.places.len()
+        self.changes.has_room()
     }
 
     // Notes a change, which makes this the metadata of its ledger.
@@ -36,16 +36,14 @@ impl Chronicle<'_> {
         requires version { metadata.version.0 ≡ suc (known (kept (in_chronicle self.old) ledger.0)).version.0 }
         ensures after { in_chronicle self.new ≡ written (in_chronicle self.old) ledger.0 metadata }
         ensures history { history self.new ≡ history self.old ++ (change_to ledger metadata.state metadata.layout metadata.closing ∷ []) }
-        ensures places { self.new.places.now ≡ slice_set self.old.places.now self.old.made (change_to ledger metadata.state metadata.layout metadata.closing) }
+        ensures places { self.new.changes.places.now ≡ slice_set self.old.changes.places.now (length (history self.old)) (change_to ledger metadata.state metadata.layout metadata.closing) }
     {
-        let made = self.made;
-        self.places[made as usize] = Change {
+        self.changes.push(Change {
             ledger,
             state: metadata.state,
             layout: metadata.layout,
             closing: metadata.closing,
-        };
-        self.made = made + 1;
+        });
     }
 }
 
@@ -60,7 +58,7 @@ impl Store for Chronicle<'_> {
         ensures answer { result ≡ create_answer (in_chronicle self.old) ledger }
         ensures after { in_chronicle self.new ≡ create_after (in_chronicle self.old) ledger layout.now }
         ensures history { history self.new ≡ history_after result self.old (change_to ledger Open layout.now (lac_id 0)) }
-        ensures places { self.new.places.now ≡ places_after result self.old (change_to ledger Open layout.now (lac_id 0)) }
+        ensures places { self.new.changes.places.now ≡ places_after result self.old (change_to ledger Open layout.now (lac_id 0)) }
     {
         ask_create(ledger, self.kept(ledger), self.has_room())?;
         let version = Version(1);
@@ -85,7 +83,7 @@ impl Store for Chronicle<'_> {
         ensures answer { result ≡ put_answer (in_chronicle self.old) ledger expected }
         ensures after { in_chronicle self.new ≡ put_after (in_chronicle self.old) ledger expected state layout.now closing }
         ensures history { history self.new ≡ history_after result self.old (change_to ledger state layout.now closing) }
-        ensures places { self.new.places.now ≡ places_after result self.old (change_to ledger state layout.now closing) }
+        ensures places { self.new.changes.places.now ≡ places_after result self.old (change_to ledger state layout.now closing) }
     {
         ask_put(ledger, self.kept(ledger), expected, self.has_room())?;
         let version = Version(expected.0 + 1);

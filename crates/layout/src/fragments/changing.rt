@@ -8,6 +8,7 @@ use super::{Fragment, Layout, MAX_FRAGMENTS};
 use crate::sizes::Sizes;
 use ledgers::bookie_lists::{BookieList, MAX_ENSEMBLE};
 use ledgers::ids::{BookieId, EntryId, Position};
+use places::Blank;
 
 impl Layout {
     // The layout of a new ledger: one fragment, from entry 0 on, with these bookies by position.

@@ -1,23 +1,13 @@
 // Which fragment an entry belongs to, and which bookies stand there.
 ghost use Rattle.std.specs.Prelude.{◌≡◌, slice_index};
-ghost use Rattle.layout.specs.Layouts.{fragment_of, last_fragment, bookie_at, blank_fragment};
+ghost use Rattle.layout.specs.Layouts.{fragment_of, last_fragment, bookie_at};
 
 use super::{Fragment, Layout};
 use crate::sizes::Sizes;
-use ledgers::bookie_lists::MAX_ENSEMBLE;
 use ledgers::ids::{BookieId, EntryId, Position};
+use places::Blank;
 
 impl Fragment {
-    // Zeros.
-    pub fn blank() -> Fragment
-        ensures { result ≡ blank_fragment }
-    {
-        Fragment {
-            first: EntryId(0),
-            bookies: [0; MAX_ENSEMBLE],
-        }
-    }
-
     // The bookie at a position; 0 past the positions that a fragment has.
     pub fn bookie(&self, position: Position) -> BookieId
         ensures { result.0 ≡ slice_index self.now.bookies position.0 }

@@ -41,6 +41,7 @@ impl<'a, T: Blank + Copy> LentList<'a, T> {
     pub fn push(&mut self, item: T)
         ensures records { records self.new ≡ posted (room self.old) (records self.old) item }
         ensures room { room self.new ≡ room self.old }
+        ensures places { self.new.places.now ≡ slice_set self.old.places.now (length (records self.old)) item }
     {
         self.count = append(self.places, self.count, item);
     }

@@ -1,6 +1,5 @@
 // How a writer comes to be, and what it tells of itself.
 ghost use Rattle.std.specs.Prelude.{◌≡◌};
-ghost use Rattle.layout.specs.Layouts.{no_layout};
 ghost use Rattle.messages.specs.Faults.{when_ok};
 ghost use Rattle.protocol.specs.Stores.{create_answer, create_after};
 ghost use Rattle.protocol.specs.Writers.{no_writer, new_writer};
@@ -9,10 +8,9 @@ ghost use Rattle.writers.specs.Meaning.{meant};
 
 use super::{MAX_PENDING, Writer};
 use layout::fragments::Layout;
-use layout::sizes::Sizes;
-use ledgers::bookie_lists::BookieList;
 use ledgers::ids::{Lac, LedgerId, Version};
 use messages::entries::PendingAdd;
+use places::Blank;
 use places::lent_lists::LentList;
 use protocol::faults::ClientFault;
 use protocol::writers::WriterState;
@@ -25,7 +23,7 @@ impl<'a> Writer<'a> {
     {
         Writer {
             state: WriterState::Absent,
-            layout: no_layout(),
+            layout: Layout::blank(),
             version: Version(0),
             lac: Lac(0),
             pending: LentList::new(&mut places[..]),
@@ -73,17 +71,4 @@ impl<'a> Writer<'a> {
     {
         self.lac
     }
-}
-
-// The layout of no ledger: zeros, for an ensemble of one.
-fn no_layout() -> Layout
-    ensures { result ≡ no_layout }
-{
-    let Some(sizes) = Sizes::new(1, 1, 1) else {
-        unreachable()
-    };
-    let Some(bookies) = BookieList::new(&[]) else {
-        unreachable()
-    };
-    Layout::first(sizes, &bookies)
 }
