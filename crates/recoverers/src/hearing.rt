@@ -6,7 +6,7 @@ ghost use Rattle.protocol.specs.Recoverers.{heard, heard_sends, asks, phase_numb
 ghost use Rattle.protocol.specs.declared.recoverers.Recoverer.{Recoverer};
 
 use crate::asking::ask;
-use crate::phases::{is_awaited, one_more, read_on};
+use crate::phases::{is_awaited, one_more, read_on, write_back};
 use ledgers::ids::{EntryId, RecovererId};
 use messages::messages::Message;
 use protocol::recoverers::{Phase, Recoverer};
@@ -61,13 +61,7 @@ impl Recovery for Recoverer {
                 }
                 Phase::Ended
             }
-            (Phase::Reading { .. }, Message::Found { lac, body, .. }) => {
-                Phase::Writing {
-                    good: [false; 5],
-                    lac: *lac,
-                    body: *body,
-                }
-            }
+            (Phase::Reading { .. }, Message::Found { lac, body, .. }) => write_back(*lac, *body),
             (Phase::Writing { good, .. }, Message::RecoveryAdded { bookie, .. }) => {
                 self.layout.mark_write_set(next, *bookie, good);
                 if sizes.marked(next, good) < sizes.ack_quorum() {
