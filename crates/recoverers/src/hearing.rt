@@ -13,22 +13,22 @@ use protocol::recoverers::{Phase, Recoverer};
 use waiting::WaitingList;
 
 pub trait Recovery {
-    // The recoverer of the protocol that it is.
-    ghost recoverer: { Self → Recoverer };
+    // The recoverer of the protocol.
+    ghost means: { Self → Recoverer };
 
     // Hears a reply, and says whether a new phase began.
     fn hear(&mut self, reply: &Message) -> bool
-        ensures after { recoverer self.new ≡ heard (recoverer self.old) reply.now }
-        ensures fresh { result ≡ not (phase_number (recoverer self.old).phase == phase_number (recoverer self.new).phase) };
+        ensures after { means self.new ≡ heard (means self.old) reply.now }
+        ensures fresh { result ≡ not (phase_number (means self.old).phase == phase_number (means self.new).phase) };
 
     // Sends the requests of its phase, again where they were sent before, to the positions that have not answered.
     fn ask_again(&self, number: RecovererId, messages: &mut WaitingList)
-        ensures { queue messages.new ≡ sent (queue messages.old) (asks (recoverer self.now) number) };
+        ensures { queue messages.new ≡ sent (queue messages.old) (asks (means self.now) number) };
 
     // Hears a reply; a new phase sends its requests.
     fn deliver(&mut self, number: RecovererId, reply: &Message, messages: &mut WaitingList)
-        ensures after { recoverer self.new ≡ heard (recoverer self.old) reply.now }
-        ensures sends { queue messages.new ≡ sent (queue messages.old) (heard_sends (recoverer self.old) number reply.now) }
+        ensures after { means self.new ≡ heard (means self.old) reply.now }
+        ensures sends { queue messages.new ≡ sent (queue messages.old) (heard_sends (means self.old) number reply.now) }
     {
         if self.hear(reply) {
             self.ask_again(number, messages);
@@ -37,7 +37,7 @@ pub trait Recovery {
 }
 
 impl Recovery for Recoverer {
-    ghost recoverer = { λ x. x };
+    ghost means = { λ x. x };
 
     fn hear(&mut self, reply: &Message) -> bool {
         if !is_awaited(self, reply) {
