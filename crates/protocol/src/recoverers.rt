@@ -6,8 +6,8 @@ use ledgers::ids::{Lac, LedgerId, Version};
 // What it is at, with the positions that have answered.
 #[derive(Clone, Copy, PartialEq, Eq)]
 pub enum Phase {
-    // It has no ledger. A phase beside the others, and no Option of a recoverer: each rule asks for the phase once, and would ask
-    // for the recoverer first.
+    // It has no ledger. A phase beside the others, and no Option of a recoverer: each rule asks for the phase once, and
+    // would ask for the recoverer first.
     Idle,
     // It fences the ensemble of the last fragment.
     Fencing {

@@ -6,29 +6,29 @@ ghost use Rattle.protocol.specs.Recoverers.{heard, heard_sends, asks, phase_numb
 ghost use Rattle.protocol.specs.declared.recoverers.Recoverer.{Recoverer};
 
 use crate::asking::ask;
-use crate::phases::{is_awaited, one_more, read_on};
+use crate::phases::{is_awaited, one_more, read_on, write_back};
 use ledgers::ids::{EntryId, RecovererId};
 use messages::messages::Message;
 use protocol::recoverers::{Phase, Recoverer};
 use waiting::WaitingList;
 
 pub trait Recovery {
-    // The recoverer of the protocol that it is.
-    ghost recoverer: { Self → Recoverer };
+    // The recoverer of the protocol.
+    ghost means: { Self → Recoverer };
 
     // Hears a reply, and says whether a new phase began.
     fn hear(&mut self, reply: &Message) -> bool
-        ensures after { recoverer self.new ≡ heard (recoverer self.old) reply.now }
-        ensures fresh { result ≡ not (phase_number (recoverer self.old).phase == phase_number (recoverer self.new).phase) };
+        ensures after { means self.new ≡ heard (means self.old) reply.now }
+        ensures fresh { result ≡ not (phase_number (means self.old).phase == phase_number (means self.new).phase) };
 
     // Sends the requests of its phase, again where they were sent before, to the positions that have not answered.
     fn ask_again(&self, number: RecovererId, messages: &mut WaitingList)
-        ensures { queue messages.new ≡ sent (queue messages.old) (asks (recoverer self.now) number) };
+        ensures { queue messages.new ≡ sent (queue messages.old) (asks (means self.now) number) };
 
     // Hears a reply; a new phase sends its requests.
     fn deliver(&mut self, number: RecovererId, reply: &Message, messages: &mut WaitingList)
-        ensures after { recoverer self.new ≡ heard (recoverer self.old) reply.now }
-        ensures sends { queue messages.new ≡ sent (queue messages.old) (heard_sends (recoverer self.old) number reply.now) }
+        ensures after { means self.new ≡ heard (means self.old) reply.now }
+        ensures sends { queue messages.new ≡ sent (queue messages.old) (heard_sends (means self.old) number reply.now) }
     {
         if self.hear(reply) {
             self.ask_again(number, messages);
@@ -37,7 +37,7 @@ pub trait Recovery {
 }
 
 impl Recovery for Recoverer {
-    ghost recoverer = { λ x. x };
+    ghost means = { λ x. x };
 
     fn hear(&mut self, reply: &Message) -> bool {
         if !is_awaited(self, reply) {
@@ -61,13 +61,7 @@ impl Recovery for Recoverer {
                 }
                 Phase::Ended
             }
-            (Phase::Reading { .. }, Message::Found { lac, body, .. }) => {
-                Phase::Writing {
-                    good: [false; 5],
-                    lac: *lac,
-                    body: *body,
-                }
-            }
+            (Phase::Reading { .. }, Message::Found { lac, body, .. }) => write_back(*lac, *body),
             (Phase::Writing { good, .. }, Message::RecoveryAdded { bookie, .. }) => {
                 self.layout.mark_write_set(next, *bookie, good);
                 if sizes.marked(next, good) < sizes.ack_quorum() {

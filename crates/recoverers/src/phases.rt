@@ -1,8 +1,11 @@
 // From one phase to the next.
 ghost use Rattle.std.specs.Prelude.{◌≡◌};
+ghost use Rattle.layout.specs.WriteSets.{no_marks};
 ghost use Rattle.protocol.specs.Recoverers.{read_on, next};
+ghost use Rattle.protocol.specs.declared.recoverers.Phase.TheVariants.{Writing};
 ghost use Rattle.recoverers.specs.Replies.{is_awaited};
 
+use ledgers::bodies::Body;
 use ledgers::ids::{EntryId, Lac};
 use messages::messages::Message;
 use protocol::recoverers::{Phase, Recoverer};
@@ -15,6 +18,17 @@ pub(crate) fn read_on(settled: Lac) -> Phase
         Phase::Reading { absent: [false; 5] }
     } else {
         Phase::Ended
+    }
+}
+
+// An entry that was found with this LAC and body is written back.
+pub(crate) fn write_back(lac: Lac, body: Body) -> Phase
+    ensures { result ≡ Writing no_marks lac body }
+{
+    Phase::Writing {
+        good: [false; 5],
+        lac,
+        body,
     }
 }
 
