@@ -1,6 +1,6 @@
 // What clients, bookies and stores exchange and keep: messages, entries, pending adds and the metadata of a ledger,
-// with the reasons for which a bookie or a store refuses. Plain types; `specs/` has their blanks, the numbers of the
-// refusals and the list in which messages wait.
+// with the reasons for which a bookie or a store refuses. Plain types, with their blanks and the numbers of the
+// refusals; `specs/` has the list in which messages wait.
 #![tactic(auto)]
 
 pub mod blanks;
