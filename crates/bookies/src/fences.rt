@@ -1,4 +1,5 @@
-// Which ledgers are fenced, as a flag for each. A ledger that there cannot be has none.
+// Which ledgers are fenced, as a flag for each. A ledger that there cannot be has none. A journal has its own two functions for
+// the same questions: there the fences are the bits of one number in a file, and no array.
 ghost use Rattle.std.specs.Prelude.{◌≡◌, true, false};
 ghost use Rattle.ledgers.specs.Tables.{numbered, renumbered};
 

@@ -8,6 +8,8 @@ use crate::interface::Group;
 use ledgers::ids::{BookieId, EntryId, Lac, LedgerId};
 use messages::entries::Held;
 
+// Each call asks once which side has the number. That match stands in each of them: the sides have two types and the calls their
+// own arguments, so that one function for it would take a closure for each side, and be longer than the match.
 #[derive(Drop)]
 pub struct Pair<L, R> {
     pub left: L,

@@ -12,7 +12,8 @@ ghost use Rattle.places.specs.Lists.{closed, Removed};
 pub mod lent_lists;
 pub mod short_lists;
 
-// A kind of record that has a blank one.
+// A kind of record that has a blank one. `Default` would not do: what it gives has no name, so that no contract could say which
+// record stands in a place that is vacated.
 pub trait Blank {
     ghost empty: { Self };
 

@@ -29,7 +29,7 @@ impl From<Refusal> for u8 {
 }
 
 impl Refusal {
-    // The word that it is printed with.
+    // The word that it is printed with. As that of a `LineFault` it is a number and no `Option`.
     pub fn word(self) -> usize
         ensures { result ≡ refusal_word self }
     {

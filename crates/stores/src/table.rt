@@ -7,6 +7,7 @@ use messages::metadata::Metadata;
 // The changes that a table can take.
 pub const TABLE_CHANGES: u32 = 60000;
 
+// Sixteen rows by value: a table allocates nothing.
 #[derive(Clone, Copy)]
 pub struct Table {
     // By number, from ledger 1 on.

@@ -24,7 +24,8 @@ impl From<LineFault> for u8 {
 }
 
 impl LineFault {
-    // The word that a refusal is printed with.
+    // The word that a refusal is printed with. No `Option`: 0 is itself a word that is printed, that of the letter, and stands
+    // as well where no word fails by itself.
     pub fn word(self) -> usize
         ensures { result ≡ line_word self }
     {

@@ -8,6 +8,7 @@ use crate::letters::Letter;
 use crate::numerals::read_number;
 use ledgers::bodies::Body;
 
+// Each kind has its place for itself: whoever matches on the kind has everything at hand that a refusal needs.
 #[derive(Clone, Copy)]
 pub enum Word<'a> {
     // One byte, in front of the line.

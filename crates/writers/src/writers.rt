@@ -11,6 +11,8 @@ use protocol::writers::WriterState;
 // The most adds that a writer has pending.
 pub const MAX_PENDING: usize = 16;
 
+// It does not know the number of its ledger, and is told it at each call: in a table of writers that is the row's number, and a
+// writer that knew it too would need a clause in each call that the two stay the same.
 #[derive(Drop)]
 pub struct Writer<'a> {
     state: WriterState,

@@ -44,6 +44,7 @@ impl Sizes {
     pub fn covers(&self, marks: &[bool; 5]) -> bool
         ensures { result ≡ covers self.now (marked marks.now) }
     {
+        // A loop, since of `all` over a range no proof was found: what is known of its run does not reach the definition.
         for e in 0..self.ensemble {
             if !self.is_blocked(EntryId(e), marks) {
                 return false;

@@ -128,6 +128,7 @@ impl Writer<'_> {
         ensures { meant self.new ≡ with_pending (meant self.old) self.old.lac.0 (map (unmarked position.0) (records self.old.pending)) }
     {
         let p = position.0 as usize;
+        // By number: a list that knows facts of its places lends its records only to be read.
         for k in 0..self.pending.len() {
             let mut add = self.pending.as_slice()[k];
             add.marks[p] = false;
