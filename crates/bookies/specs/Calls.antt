@@ -10,10 +10,6 @@ use Rattle.messages.specs.declared.faults.BookieFault.{BookieFault}
 use Rattle.messages.specs.declared.faults.BookieFault.TheVariants as fault
 use Rattle.protocol.specs.Bookies.{Bookie, add_answer, add_after}
 
--- the bookie with these four parts of s
-abbrev pub meaning : {S : Type 0} → (S → List Held) → (S → List Bool) → (S → ℕ) → (S → Bool) → S → Bookie
-meaning entries fences space up s = record { up = up s; entries = entries s; fences = fences s; space = space s }
-
 -- bytes that make no body are out of range, before anything else is asked
 abbrev pub add_made_answer : Option Body → Bookie → LedgerId → EntryId → Lac → Bool → Result (Unit {0}) BookieFault
 add_made_answer None b l e n recovery = Err fault.Range

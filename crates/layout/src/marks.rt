@@ -1,11 +1,11 @@
 // Marks on positions, by the bookie that stands there.
-ghost use Rattle.std.specs.Prelude.{◌≡◌, true, slice_set};
+ghost use Rattle.std.specs.Prelude.{◌≡◌};
 ghost use Rattle.layout.specs.WriteSets.{write_set, ensemble, mark, marked};
 ghost use Rattle.layout.specs.Layouts.{fragment_of, last_fragment};
 
 use crate::fragments::{Fragment, Layout};
-use ledgers::bookie_lists::MAX_ENSEMBLE;
 use ledgers::ids::{BookieId, EntryId, Position};
+use places::put;
 
 impl Layout {
     // Marks the position at which a bookie stands in the ensemble of the last fragment, if it does.
@@ -31,19 +31,9 @@ fn mark_first(fragment: &Fragment, positions: &[u32], bookie: BookieId, marks: &
 {
     for position in positions {
         if fragment.bookie(Position(*position)) == bookie {
-            set_mark(marks, *position);
+            put(&mut marks[..], *position as usize, true);
             return;
         }
-    }
-}
-
-// Marks a position, if there can be one.
-fn set_mark(marks: &mut [bool; 5], position: u32)
-    ensures { marks.new ≡ slice_set marks.old position true }
-{
-    let at = position as usize;
-    if at < MAX_ENSEMBLE {
-        marks[at] = true;
     }
 }
 

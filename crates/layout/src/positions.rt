@@ -41,6 +41,7 @@ impl Sizes {
         ensures { listed_positions result ≡ positions count e.0 self.now.ensemble }
     {
         let mut positions = ShortList::new();
+        // By offset: each position is counted from one, and nothing collects into a list without memory of its own.
         for offset in 0..count {
             positions.push(self.position(e, offset).0);
         }

@@ -12,8 +12,8 @@ ghost use Rattle.places.specs.Lists.{closed, Removed};
 pub mod lent_lists;
 pub mod short_lists;
 
-// A kind of record that has a blank one. `Default` would not do: what it gives has no name, so that no contract could say which
-// record stands in a place that is vacated.
+// A kind of record that has a blank one. `Default` would not do: it says of a value whether it may be the default, and
+// names none, so that two places that are vacated could differ.
 pub trait Blank {
     ghost empty: { Self };
 
@@ -34,6 +34,15 @@ impl Blank for u32 {
 
     fn blank() -> u32 {
         0
+    }
+}
+
+// Another record in the place of the one at `at`, if there is such a place.
+pub fn put<T: Copy>(places: &mut [T], at: usize, item: T)
+    ensures { places.new ≡ slice_set places.old at item }
+{
+    if at < places.len() {
+        places[at] = item;
     }
 }
 
@@ -76,6 +85,7 @@ fn take_off<T: Blank + Copy>(places: &mut [T], count: usize, at: usize) -> T
 pub fn clear<T: Blank + Copy>(places: &mut [T])
     ensures { places.new ≡ replicate (length places.old) T.empty }
 {
+    // No `fill`: it wants a clone that cannot fail, which `Copy` alone does not promise.
     for place in places.iter_mut() {
         *place = T::blank();
     }

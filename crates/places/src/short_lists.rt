@@ -1,4 +1,5 @@
-// Lists of a few records, in memory of their own that is fixed.
+// Lists of a few records, in memory of their own that is fixed: an array with its count, and no array vector of the kit, since that is
+// not `Copy`, which what lies in tables, in messages and in lent memory has to be.
 ghost use Rattle.std.specs.Prelude.{◌≡◌, ◌-◌, ◌≤◌, length, drop, replicate, ⊤};
 
 use crate::Blank;

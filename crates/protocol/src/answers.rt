@@ -18,7 +18,8 @@ pub enum Answer {
     Confirmed(Lac),
     // The recoverer's settled entry.
     Settled(Lac),
-    // The recoverer is not at work.
+    // The recoverer is not at work. An answer of its own and no `Settled` of nothing: it is printed with a number of its own, and so is
+    // `Lost`.
     Idle,
     // The writer lost its ledger to a recovery, and is fenced.
     Lost,

@@ -27,7 +27,7 @@ fn some_change(layout: Layout) -> Change {
     }
 }
 
-// The version that was answered, or the number of the refusal.
+// The version that was answered, or the number of the refusal: one number to compare, since no version here is as high as 30.
 fn shown(answer: Result<Version, StoreFault>) -> u32 {
     match answer {
         Ok(version) => version.0,

@@ -1,5 +1,5 @@
 -- What a store answers, by what it keeps of the ledger and whether a change is left: the protocol's answers, of which
--- these are the parts that every store has in common.
+-- these are the parts that every store has in common, with what is kept and the room for a parameter each.
 use Rattle.std.specs.Prelude.{Bool, not, Ok, Option, Result, ◌==◌}
 use Rattle.std.specs.Option.{is_some}
 use Rattle.ledgers.specs.Limits.{is_ledger}

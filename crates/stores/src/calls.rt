@@ -20,7 +20,8 @@ pub trait Store {
         ensures answer { result ≡ create_answer (means self.old) ledger }
         ensures after { means self.new ≡ create_after (means self.old) ledger layout.now };
 
-    // The record of a ledger is set and its version raised by one, if that is the one expected.
+    // The record of a ledger is set and its version raised by one, if that is the one expected. What is put is no struct: a
+    // `Metadata` has its version besides, which the store gives.
     fn put(
         &mut self,
         ledger: LedgerId,

@@ -6,7 +6,7 @@ use Rattle.messages.specs.Waiting.{Queue, without}
 use Rattle.messages.specs.declared.messages.Message.{Message}
 use Rattle.waiting.specs.declared.waiting_list.WaitingList.{WaitingList}
 
--- its memory's places, and the messages in the first of them
+-- its places, and the messages in the first of them
 abbrev pub queue : WaitingList → Queue
 queue w = record { room = room w.0; waiting = records w.0 }
 

@@ -20,6 +20,7 @@ fn digits_value(word: &[u8]) -> Option<u32>
     requires { length word.now ≤ 5 }
     ensures { result ≡ onward 0 word.now }
 {
+    // No `try_fold`: its closure would have to show for any value that the sum fits.
     let mut value = 0;
     for byte in word {
         value = value * 10 + char::from(*byte).to_digit(10)?;

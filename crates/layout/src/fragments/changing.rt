@@ -1,14 +1,14 @@
 // The layout of a new ledger, and the one after an ensemble change.
-ghost use Rattle.std.specs.Prelude.{◌≡◌, slice_set};
+ghost use Rattle.std.specs.Prelude.{◌≡◌};
 ghost use Rattle.ledgers.specs.BookieLists.{by_position};
 ghost use Rattle.layout.specs.Layouts.{first_layout, room_for, changed_place, changed_fragment, changed_layout};
 ghost use Rattle.layout.specs.Rising.{Rising, Onward};
 
 use super::{Fragment, Layout, MAX_FRAGMENTS};
 use crate::sizes::Sizes;
-use ledgers::bookie_lists::{BookieList, MAX_ENSEMBLE};
+use ledgers::bookie_lists::BookieList;
 use ledgers::ids::{BookieId, EntryId, Position};
-use places::Blank;
+use places::{Blank, put};
 
 impl Layout {
     // The layout of a new ledger: one fragment, from entry 0 on, with these bookies by position.
@@ -76,26 +76,13 @@ impl Layout {
     }
 }
 
-// The list with a number put at a position, if it has that position.
-fn put_at(bookies: [u32; 5], position: Position, bookie: BookieId) -> [u32; 5]
-    ensures { result ≡ slice_set bookies position.0 bookie.0 }
-{
-    let mut bookies = bookies;
-    let at = position.0 as usize;
-    if at < MAX_ENSEMBLE {
-        bookies[at] = bookie.0;
-    }
-    bookies
-}
-
 impl Fragment {
     // The fragment from another entry on, with a bookie put at a position.
     pub fn changed(&self, first: EntryId, position: Position, bookie: BookieId) -> Fragment
         ensures { result ≡ changed_fragment self.now first.0 position.0 bookie.0 }
     {
-        Fragment {
-            first,
-            bookies: put_at(self.bookies, position, bookie),
-        }
+        let mut bookies = self.bookies;
+        put(&mut bookies[..], position.0 as usize, bookie.0);
+        Fragment { first, bookies }
     }
 }

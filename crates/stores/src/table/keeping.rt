@@ -30,6 +30,7 @@ impl Table {
         ensures value { result ≡ kept (in_table self.now) ledger.0 }
         ensures version { (known result).version.0 ≤ self.now.made }
     {
+        // By `match`: behind `?` no proof of the version was found.
         match ledger.row() {
             Some(row) => self.ledgers[row],
             None => None,
@@ -81,6 +82,8 @@ impl Store for Table {
         ask_get(ledger, self.kept(ledger))
     }
 
+    // The bodies of create and put are those of a chronicle but for their last call. One impl for both would need a call that sets a row
+    // with a premise about its version, which everybody who has a store could make.
     fn create(&mut self, ledger: LedgerId, layout: &Layout) -> Result<Version, StoreFault> {
         ask_create(ledger, self.kept(ledger), self.has_room())?;
         let version = Version(1);

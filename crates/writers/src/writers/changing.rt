@@ -15,6 +15,7 @@ use super::Writer;
 use layout::fragments::Layout;
 use ledgers::ids::{BookieId, EntryId, Lac, LedgerId, Position, Version};
 use messages::metadata::LedgerState;
+use places::put;
 use protocol::faults::ClientFault;
 use stores::calls::Store;
 use waiting::WaitingList;
@@ -54,7 +55,6 @@ impl Writer<'_> {
         ledgers: &mut S,
         messages: &mut WaitingList<'_>,
     ) -> Result<Option<EntryId>, ClientFault>
-        requires { position.0 < 5 }
         ensures answer { result ≡ adoption_answer (meant self.old) (S.means ledgers.old) ledger }
         ensures after { meant self.new ≡ after_put result (changed_writer (meant self.old) position bookie) (fenced_writer (meant self.old)) (meant self.old) }
         ensures stored { S.means ledgers.new ≡ after_put result (change_store (meant self.old) (S.means ledgers.old) ledger position bookie) (S.means ledgers.old) (S.means ledgers.old) }
@@ -74,7 +74,6 @@ impl Writer<'_> {
         ledgers: &mut S,
         messages: &mut WaitingList<'_>,
     ) -> Result<Option<EntryId>, ClientFault>
-        requires { position.0 < 5 }
         ensures answer { result ≡ adoption_answer (meant self.old) (S.means ledgers.old) ledger }
         ensures after { meant self.new ≡ after_put result (adopted (meant self.old) layout.now (suc self.old.version.0) position) (fenced_writer (meant self.old)) (meant self.old) }
         ensures stored { S.means ledgers.new ≡ after_put result (put_after (S.means ledgers.old) ledger self.old.version Open layout.now (lac_id 0)) (S.means ledgers.old) (S.means ledgers.old) }
@@ -98,6 +97,7 @@ impl Writer<'_> {
     {
         let ensemble = self.layout.sizes().ensemble();
         let last = self.layout.last_fragment();
+        // A position against a size: two kinds of number.
         !stands_among(&last.bookies[..ensemble as usize], bookie) && position.0 < ensemble
     }
 
@@ -112,7 +112,6 @@ impl Writer<'_> {
         bookie: BookieId,
         messages: &mut WaitingList<'_>,
     )
-        requires { position.0 < 5 }
         ensures after { meant self.new ≡ adopted (meant self.old) layout.now version.0 position }
         ensures sends { queue messages.new ≡ sent (queue messages.old) (adoption_sends (meant self.old) layout.now ledger position bookie) }
     {
@@ -124,14 +123,13 @@ impl Writer<'_> {
 
     // Clears the marks of all pending entries at a position.
     fn unmark(&mut self, position: Position)
-        requires { position.0 < 5 }
         ensures { meant self.new ≡ with_pending (meant self.old) self.old.lac.0 (map (unmarked position.0) (records self.old.pending)) }
     {
-        let p = position.0 as usize;
-        // By number: a list that knows facts of its places lends its records only to be read.
+        // By number: a list that knows facts of its places lends its records only to be read. Lending them to be written was tried, and
+        // got no proof.
         for k in 0..self.pending.len() {
             let mut add = self.pending.as_slice()[k];
-            add.marks[p] = false;
+            put(&mut add.marks[..], position.0 as usize, false);
             self.pending.replace(k, add);
         }
     }

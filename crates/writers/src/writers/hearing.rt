@@ -65,6 +65,7 @@ impl Writer<'_> {
     fn is_first_acknowledged(&self) -> bool
         ensures { result ≡ first_acknowledged (meant self.now) }
     {
+        // By `match`: of `is_some_and` with this closure no proof was found.
         match self.pending.as_slice().first() {
             Some(add) => self.is_acknowledged(EntryId(self.lac.0), add),
             None => false,

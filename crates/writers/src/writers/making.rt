@@ -65,6 +65,13 @@ impl<'a> Writer<'a> {
         self.state
     }
 
+    // The adds that are pending, in order.
+    pub fn pending(&self) -> &[PendingAdd]
+        ensures { result.now ≡ (meant self.now).pending }
+    {
+        self.pending.as_slice()
+    }
+
     // The last add confirmed.
     pub fn lac(&self) -> Lac
         ensures { result ≡ self.now.lac }

@@ -12,7 +12,7 @@ ghost use Rattle.writers.specs.Calls.{append_after, append_sent, resend_sent};
 use super::{MAX_PENDING, Writer};
 use layout::marks::is_marked;
 use ledgers::bodies::Body;
-use ledgers::ids::{BookieId, EntryId, LedgerId, MAX_ENTRIES, Position};
+use ledgers::ids::{BookieId, EntryId, LedgerId, Position};
 use messages::entries::PendingAdd;
 use messages::messages::Message;
 use protocol::faults::ClientFault;
@@ -67,7 +67,7 @@ impl Writer<'_> {
     fn has_room(&self) -> bool
         ensures { result ≡ has_room (meant self.now) }
     {
-        self.pending.len() < MAX_PENDING && self.next_entry().0 < MAX_ENTRIES
+        self.pending.len() < MAX_PENDING && self.next_entry().is_in_range()
     }
 
     // The entry that an append gives.

@@ -1,4 +1,4 @@
-use Rattle.std.proofs.Common.{◌≡◌, ◌<◌, length, get_or, ap, ◌∙◌, arith, length-set}
+use Rattle.std.proofs.Common.{◌≡◌, ◌<◌, length, get_or, set, ap, ◌∙◌, arith, length-set}
 use Rattle.std.proofs.lemmas.List.Edits.{map_over_more}
 use Rattle.places.specs.LentLists.{records}
 use Rattle.protocol.specs.Writers.{Writer, unmarked, with_pending}
@@ -16,8 +16,10 @@ loop-k-preserved c =
     let before = c.loop-k.invariant.1 in
     let lt : k < length olds = omega arith in
     let here : x ≡ get_or ps k x = c.index-as_slice-k.is ∙ ap (λ xs. get_or xs k x) c.as_slice.ensures in
+    let is : records c.replace.new.self ≡ set ps k (f x) =
+    c.replace.ensures.records ∙ ap (λ m. set ps k (record { body = x.body; marks = m })) c.put.ensures in
     let more = map_over_more f olds ps k x lt (ap (λ (v : Writer). v.pending) before) here in (
-      ap length c.replace.ensures.records ∙ length-set ps k (f x) ∙ c.loop-k.invariant.0,
+      ap length is ∙ length-set ps k (f x) ∙ c.loop-k.invariant.0,
       ap (λ (v : Writer). with_pending v v.lac (records c.replace.new.self)) before
-          ∙ ap (with_pending (meant w) w.lac.0) (c.replace.ensures.records ∙ more),
+          ∙ ap (with_pending (meant w) w.lac.0) (is ∙ more),
     )

@@ -9,4 +9,4 @@ abbrev pub invariant-loop-k : goal.invariant-loop-k
 invariant-loop-k l =
     let olds = records l.initial.self.pending in
     (length (records l.self.pending) ≡ length olds)
-    × (meant l.self ≡ with_pending (meant l.initial.self) l.initial.self.lac.0 (map (unmarked l.p) (take l.k olds) ++ drop l.k olds))
+    × (meant l.self ≡ with_pending (meant l.initial.self) l.initial.self.lac.0 (map (unmarked l.position.0) (take l.k olds) ++ drop l.k olds))
