@@ -17,7 +17,7 @@ pub struct One<'b, B> {
 fn is_there(bookie: BookieId) -> Result<(), GroupFault>
     ensures { result ≡ question (nat_lt bookie.0 1) GroupFault.Missing (Ok tt) }
 {
-    if bookie.0 > 0 {
+    if bookie != BookieId(0) {
         return Err(GroupFault::Missing);
     }
     Ok(())

@@ -44,6 +44,7 @@ impl Recovery for Recoverer {
             return false;
         }
         let sizes = self.layout.sizes();
+        // A method of `Lac` for the entry behind it was tried, and the proof of this match did not close with it.
         let next = EntryId(self.settled.0);
         self.phase = match (&mut self.phase, reply) {
             (Phase::Fencing { marks }, Message::Fenced { bookie, lac, .. }) => {
