@@ -1,4 +1,2 @@
 pub mod Same
 pub mod Turns
-pub mod Left
-pub mod Onward

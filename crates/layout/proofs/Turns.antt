@@ -1,12 +1,10 @@
 -- A loop's turns through the positions of a write set, the write sets of an ensemble, and the fragments of a layout.
-use Rattle.std.proofs.Common.{◌≡◌, ℕ, zero, suc, ◌+◌, ◌%◌, ◌<◌, Bool, true, false, cond, ◌||◌, eqb, leb, List, [], ◌∷◌, ◌++◌, length, get_or, sym, refl, ap, ◌∙◌, ⊎_elim, not-suc-le-zero, count_by, add-zero, add-one, arith}
+use Rattle.std.proofs.Common.{◌≡◌, ℕ, zero, suc, ◌+◌, ◌%◌, ◌<◌, Bool, true, false, cond, ◌||◌, eqb, leb, List, [], ◌∷◌, ◌++◌, length, sym, refl, ap, ◌∙◌, ⊎_elim, not-suc-le-zero, count_by, add-zero, add-one, arith}
 use Rattle.std.proofs.lemmas.Bool.{and_from, and_left, and_right, cases_eq}
 use Rattle.std.proofs.lemmas.Bool.Decides.{nat_tests}
 use Rattle.std.proofs.lemmas.List.Recursion.{is_count_by}
 use Rattle.std.specs.List.{list_any}
 use Rattle.layout.specs.WriteSets.{positions, write_set, tally, member, blocking, covers_below}
-use Rattle.layout.specs.Layouts.{no_fragment, fragment_below}
-use Rattle.layout.specs.declared.fragments.Fragment.{Fragment}
 use Rattle.layout.specs.declared.sizes.Sizes.{Sizes}
 
 -- so many positions
@@ -52,8 +50,3 @@ module _ (s : Sizes) (t : ℕ → Bool) where
   covers_not (suc n) k l h =
       ⊎_elim (λ (q : n ≡ k). and_left _ _ (ap (λ j. leb (blocking s) (tally t (write_set s j))) q ∙ h))
       (λ (q : n ≡ k → ⊥). and_right (leb (blocking s) (tally t (write_set s n))) _ (covers_not n k (omega arith) h)) (cases_eq n k)
-
--- one fragment more to look at
-pub fragment_more : (fs : List Fragment) (n e : ℕ)
-    → fragment_below fs (n + 1) e ≡ cond (leb (get_or fs n no_fragment).first.0 e) (get_or fs n no_fragment) (fragment_below fs n e)
-fragment_more fs n e = ap (λ k. fragment_below fs k e) (add-one n)
