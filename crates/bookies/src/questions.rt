@@ -20,6 +20,7 @@ impl<S: Storage> Bookie for S {
         recovery: bool,
     ) -> Result<(), BookieFault> {
         let body = Body::new(body).ok_or(BookieFault::Range)?;
+        // A LAC counts entries and is no entry: so the numbers are compared.
         if !(ledger.is_in_range() && entry.is_in_range() && lac.0 <= entry.0) {
             return Err(BookieFault::Range);
         }
