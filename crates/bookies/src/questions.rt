@@ -24,6 +24,7 @@ impl<S: Storage> Bookie for S {
         if !(ledger.is_in_range() && entry.is_in_range() && lac.0 <= entry.0) {
             return Err(BookieFault::Range);
         }
+        // Put in each of the three calls: two lines, and no fewer to read than a call with `?` would be.
         if !self.is_up() {
             return Err(BookieFault::Stopped);
         }

@@ -1,4 +1,5 @@
-// The fences of all ledgers in one number: bit l - 1 for ledger l. A ledger that there cannot be has none.
+// The fences of all ledgers in one number: bit l - 1 for ledger l. A ledger that there cannot be has none. A memory bookie has its own
+// two functions for the same questions, over an array of flags.
 ghost use Rattle.std.specs.Prelude.{◌≡◌, true, false};
 ghost use Rattle.ledgers.specs.Tables.{numbered, renumbered};
 ghost use Rattle.journals.specs.Fences.{flags, word};

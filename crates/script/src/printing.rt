@@ -1,5 +1,6 @@
 // The texts of printed lines. Each lies in a value of its own, so that nothing is allocated for it. They are pushed together
-// and not written by `write!`, which may fail for all that it promises, where a line is always printed.
+// and not written by `write!`, which may fail for all that it promises, where a line is always printed: tried, and the
+// proof did not close.
 ghost use Rattle.std.specs.Prelude.{◌≡◌, ◌<◌};
 ghost use Rattle.script.specs.Printing.{letter_byte, number_of, answer_line, totals_line};
 

@@ -35,7 +35,7 @@ fn shown(answer: Result<Version, StoreFault>) -> u32 {
     }
 }
 
-// The version of a ledger, or the number of the refusal.
+// The version of a ledger, or the number of the refusal, as above.
 fn version_of<S: Store>(store: &S, ledger: u32) -> u32 {
     match store.get(LedgerId(ledger)) {
         Ok(metadata) => metadata.version.0,

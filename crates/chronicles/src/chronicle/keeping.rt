@@ -54,6 +54,7 @@ impl Store for Chronicle<'_> {
         ask_get(ledger, self.kept(ledger))
     }
 
+    // The bodies of create and put are those of a table but for their last call; beside the table's stands why they are not one.
     fn create(&mut self, ledger: LedgerId, layout: &Layout) -> Result<Version, StoreFault>
         ensures answer { result ≡ create_answer (in_chronicle self.old) ledger }
         ensures after { in_chronicle self.new ≡ create_after (in_chronicle self.old) ledger layout.now }
