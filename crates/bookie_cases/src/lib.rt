@@ -9,7 +9,7 @@ mod tests {
     use groups::one::One;
     use groups::pair::Pair;
     use journals::journal::JournalBookie;
-    use journals::set_up::with_journal;
+    use journals::set_up::{JournalUser, lend_journal, with_journal};
     use ledgers::bodies::Body;
     use ledgers::ids::{BookieId, EntryId, Lac, LedgerId};
     use messages::entries::Held;
@@ -107,6 +107,29 @@ mod tests {
                 Ok(())
             }
         }
+    }
+
+    // Adds one entry, and answers as the bookie does.
+    #[derive(Drop)]
+    struct OneOrder;
+
+    impl JournalUser for OneOrder {
+        type Answer = u32;
+
+        ghost promises = { λ _ _ _. Unit {0} };
+
+        fn work(self, bookie: &mut JournalBookie<'_>) -> u32 {
+            add(bookie, 1, 0, 0, b"oak")
+        }
+    }
+
+    #[test]
+    fn a_user_is_lent_a_journal(rt: HostRuntime) -> Result<(), Fail> {
+        let mut file = [7; 84];
+        assert!(rt; matches!(lend_journal(&mut file, OneOrder), Ok(0)));
+        let mut small = [7; 83];
+        assert!(rt; lend_journal(&mut small, OneOrder).is_err() && small[0] == 7);
+        Ok(())
     }
 
     fn worked_example(bookie: &mut JournalBookie<'_>) -> Result<(), Fail> {

@@ -1,6 +1,7 @@
 // The way to a new journal bookie over lent bytes.
 ghost use Rattle.std.specs.Prelude.{◌≡◌, false, [], length, replicate};
 ghost use Rattle.std.specs.Fn.{FnOnceReturnsAtMut};
+ghost use Rattle.protocol.specs.Bookies.{Bookie};
 ghost use Rattle.journals.specs.declared.journal.JournalBookie.{JournalBookie};
 ghost use Rattle.journals.specs.Files.{laid_out, size_fits};
 ghost use Rattle.journals.specs.Journal.{file_of, in_journal};
@@ -34,4 +35,27 @@ pub fn with_journal<R, F: FnOnce(&mut JournalBookie<'_>) -> R + Drop>(
     }
     let mut bookie = JournalBookie::new(file);
     Ok(work(&mut bookie))
+}
+
+// Who works with a journal bookie once it is set up, where what is promised of the work belongs to its type: whoever sets a
+// journal up for any such user has nothing to ask of it, where a closure has to be one that can be called.
+pub trait JournalUser {
+    type Answer;
+    // What it promises of its answer, by what the bookie means when it gets it.
+    ghost promises: { Self → Bookie → Self.Answer → Type 0 };
+
+    fn work(self, bookie: &mut JournalBookie<'_>) -> Self::Answer
+        ensures { promises self (in_journal bookie.old) result };
+}
+
+// Sets a new journal bookie up over the memory and lets the user work with it; memory of the wrong size is refused and
+// stays as it is.
+pub fn lend_journal<U: JournalUser + Drop>(
+    file: &mut [u8],
+    user: U,
+) -> Result<U::Answer, SetUpFault>
+    ensures answer { SetUp (U.promises user) (length file.old) result }
+    ensures refused { size_fits (length file.old) ≡ false → file.new ≡ file.old }
+{
+    with_journal(file, |bookie| user.work(bookie))
 }
