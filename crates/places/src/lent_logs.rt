@@ -1,4 +1,4 @@
-// Logs in places that are lent to them: lists that take records at their end alone.
+// Logs in places that are lent to them: lists that change at their end alone.
 ghost use Rattle.std.specs.Prelude.{◌≤◌, length};
 
 // A log says nothing of what stands behind its records, and leaves that as it is. So it is set up without writing to its places,

@@ -5,7 +5,7 @@
 // records in memory of its own, which is copied as its records are. The functions of this file are what both are built on. They
 // take any numbers: what is no list, or no place of it, is left alone.
 //
-// A `LentLog` is a list in lent places whose records are only added. It leaves what stands behind them as it is, so that its records
+// A `LentLog` is a list in lent places that changes at its end alone. It leaves what stands behind its records as it is, so that they
 // need no blank.
 #![tactic(auto)]
 
