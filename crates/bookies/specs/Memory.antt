@@ -1,6 +1,6 @@
 -- What a bookie in memory means.
 use Rattle.std.specs.Prelude.{◌-◌, length}
-use Rattle.places.specs.LentLists.{records, room}
+use Rattle.places.specs.LentLogs.{records, room}
 use Rattle.protocol.specs.Bookies.{Bookie}
 use Rattle.bookies.specs.declared.memory.MemoryBookie.{MemoryBookie}
 

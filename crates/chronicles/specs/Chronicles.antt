@@ -3,7 +3,7 @@ use Rattle.std.specs.Prelude.{◌≡◌, ℕ, ◌-◌, ◌<◌, ◌≤◌, min, 
 use Rattle.ledgers.specs.declared.ids.Lac.{Lac}
 use Rattle.ledgers.specs.declared.ids.LedgerId.{LedgerId}
 use Rattle.layout.specs.declared.fragments.Layout.{Layout}
-use Rattle.places.specs.LentLists.{records, room}
+use Rattle.places.specs.LentLogs.{records, room}
 use Rattle.messages.specs.Faults.{when_ok}
 use Rattle.messages.specs.declared.faults.SetUpFault.{SetUpFault}
 use Rattle.messages.specs.declared.faults.SetUpFault.TheVariants.{ChroniclePlaces}

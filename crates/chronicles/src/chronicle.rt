@@ -1,9 +1,9 @@
 // The chronicle: the changes that it accepted, in lent places.
 ghost use Rattle.std.specs.Prelude.{◌≤◌};
-ghost use Rattle.places.specs.LentLists.{room};
+ghost use Rattle.places.specs.LentLogs.{room};
 
 use crate::changes::Change;
-use places::lent_lists::LentList;
+use places::lent_logs::LentLog;
 
 // The most places that a chronicle takes.
 pub const MAX_CHANGES: usize = 60000;
@@ -11,7 +11,7 @@ pub const MAX_CHANGES: usize = 60000;
 #[derive(Drop)]
 pub struct Chronicle<'a> {
     // The changes that it has accepted.
-    changes: LentList<'a, Change>,
+    changes: LentLog<'a, Change>,
     ghost few: { room changes ≤ 60000 },
 }
 

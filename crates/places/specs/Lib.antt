@@ -2,3 +2,4 @@ pub mod Lists
 pub mod Padding
 pub mod ShortLists
 pub mod LentLists
+pub mod LentLogs

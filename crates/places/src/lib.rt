@@ -4,12 +4,16 @@
 // the place that is vacated at the end. A `LentList` is such a list in places that somebody lends, and a `ShortList` one of a few
 // records in memory of its own, which is copied as its records are. The functions of this file are what both are built on. They
 // take any numbers: what is no list, or no place of it, is left alone.
+//
+// A `LentLog` is a list in lent places that changes at its end alone. It leaves what stands behind its records as it is, so that they
+// need no blank.
 #![tactic(auto)]
 
 ghost use Rattle.std.specs.Prelude.{◌≡◌, ◌+◌, ◌<◌, ◌≤◌, length, replicate, if◌then◌else◌, nat_lt, slice_index_or, slice_set};
 ghost use Rattle.places.specs.Lists.{closed, Removed};
 
 pub mod lent_lists;
+pub mod lent_logs;
 pub mod short_lists;
 
 // A kind of record that has a blank one. `Default` would not do: it says of a value whether it may be the default, and

@@ -10,15 +10,16 @@ use crate::storage::Storage;
 use ledgers::ids::{EntryId, Lac, LedgerId};
 use messages::entries::Held;
 use messages::faults::BookieFault;
-use places::lent_lists::LentList;
+use places::lent_logs::LentLog;
 
 impl<'a> MemoryBookie<'a> {
-    // A new bookie that can take as many entries as there are records.
+    // A new bookie that can take as many entries as there are records. They stay as they were: what they hold means nothing.
     pub fn new(records: &'a mut [Held]) -> Self
-        ensures { in_memory result ≡ new_bookie (length records.old) }
+        ensures meaning { in_memory result ≡ new_bookie (length records.old) }
+        ensures records { result.entries.places.now ≡ records.old }
     {
         MemoryBookie {
-            entries: LentList::new(records),
+            entries: LentLog::new(records),
             fenced: [false; 16],
             up: true,
         }

@@ -1,22 +1,24 @@
 // A chronicle is set up, and shows its changes.
-ghost use Rattle.std.specs.Prelude.{◌≡◌, length};
+ghost use Rattle.std.specs.Prelude.{◌≡◌, length, Ok};
 ghost use Rattle.chronicles.specs.Chronicles.{history, in_chronicle, SetUp};
 ghost use Rattle.chronicles.specs.Replays.{Complete};
+ghost use Rattle.chronicles.specs.declared.chronicle.Chronicle.{Chronicle};
 
 use super::{Chronicle, MAX_CHANGES};
 use crate::changes::Change;
 use messages::faults::SetUpFault;
-use places::lent_lists::LentList;
+use places::lent_logs::LentLog;
 
 impl<'a> Chronicle<'a> {
-    // A chronicle without a change. What the places held before means nothing.
+    // A chronicle without a change. Its places stay as they were: what they hold means nothing.
     pub fn new(places: &'a mut [Change]) -> Result<Chronicle<'a>, SetUpFault>
-        ensures { SetUp (length places.old) result }
+        ensures answer { SetUp (length places.old) result }
+        ensures places { (c : Chronicle) → result ≡ Ok c → c.changes.places.now ≡ places.old }
     {
         if places.len() > MAX_CHANGES {
             return Err(SetUpFault::ChroniclePlaces);
         }
-        let changes = LentList::new(places);
+        let changes = LentLog::new(places);
         Ok(Chronicle { changes })
     }
 

@@ -4,7 +4,7 @@ use Rattle.std.proofs.lemmas.List.Sums.{fold_push}
 use Rattle.ledgers.specs.Ids.{version_id}
 use Rattle.ledgers.specs.Tables.{renumbered}
 use Rattle.messages.specs.declared.metadata.Metadata.{Metadata}
-use Rattle.places.specs.LentLists.{records, room}
+use Rattle.places.specs.LentLogs.{records, room}
 use Rattle.chronicles.specs.Chronicles.{history}
 use Rattle.chronicles.specs.Replays.{changed, replayed}
 use Rattle.chronicles.specs.declared.changes.Change.{Change}
