@@ -29,4 +29,5 @@ impl<T: Blank + Copy, const N: usize> Clone for ShortList<T, N> {
 
 impl<T: Blank + Copy, const N: usize> Copy for ShortList<T, N> {}
 
+pub mod changing;
 pub mod listed;

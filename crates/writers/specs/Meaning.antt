@@ -1,5 +1,5 @@
 -- What a writer means: the protocol's writer.
-use Rattle.places.specs.LentLists.{records}
+use Rattle.places.specs.ShortLists.{listed}
 use Rattle.protocol.specs.Writers as protocol
 use Rattle.writers.specs.declared.writers.Writer.{Writer}
 
@@ -10,5 +10,5 @@ meant w =
       layout = w.layout;
       version = w.version.0;
       lac = w.lac.0;
-      pending = records w.pending;
+      pending = listed w.pending;
     }

@@ -1,11 +1,11 @@
-// The writer of a ledger. Its pending adds are in places that are lent to it.
+// The writer of a ledger. Its pending adds are in memory of its own, so that it is copied as any record is.
 ghost use Rattle.std.specs.Prelude.{◌≡◌, ◌+◌, ◌≤◌, length};
-ghost use Rattle.places.specs.LentLists.{records, room};
+ghost use Rattle.places.specs.ShortLists.{listed};
 
 use layout::fragments::Layout;
 use ledgers::ids::{Lac, Version};
 use messages::entries::PendingAdd;
-use places::lent_lists::LentList;
+use places::short_lists::ShortList;
 use protocol::writers::WriterState;
 
 // The most adds that a writer has pending.
@@ -13,8 +13,8 @@ pub const MAX_PENDING: usize = 16;
 
 // It does not know the number of its ledger, and is told it at each call: in a table of writers that is the row's number, and a
 // writer that knew it too would need a clause in each call that the two stay the same.
-#[derive(Drop)]
-pub struct Writer<'a> {
+#[derive(Clone, Copy)]
+pub struct Writer {
     state: WriterState,
     // The record's, until a recovery takes the ledger over.
     layout: Layout,
@@ -23,10 +23,9 @@ pub struct Writer<'a> {
     // Each entry that counts here is confirmed: an ack quorum of its write set holds it.
     lac: Lac,
     // The entries from there on that are pending, in order.
-    pending: LentList<'a, PendingAdd>,
-    ghost sixteen: { room pending ≡ 16 },
+    pending: ShortList<PendingAdd, MAX_PENDING>,
     // There are so many entries at most.
-    ghost small: { lac.0 + length (records pending) ≤ 10000 },
+    ghost small: { lac.0 + length (listed pending) ≤ 10000 },
 }
 
 pub mod changing;

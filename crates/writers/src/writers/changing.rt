@@ -1,6 +1,6 @@
 // An ensemble change: another bookie stands at a position from the first pending entry on.
 ghost use Rattle.std.specs.Prelude.{◌≡◌, suc, ◌≤◌, ◌<◌, [], map, length};
-ghost use Rattle.places.specs.LentLists.{records};
+ghost use Rattle.places.specs.ShortLists.{listed};
 ghost use Rattle.layout.specs.WriteSets.{member};
 ghost use Rattle.messages.specs.Waiting.{sent};
 ghost use Rattle.waiting.specs.Queues.{queue};
@@ -20,7 +20,7 @@ use protocol::faults::ClientFault;
 use stores::calls::Store;
 use waiting::WaitingList;
 
-impl Writer<'_> {
+impl Writer {
     // Puts a bookie at a position for every entry that is not confirmed, in the store first. Answers the first of these
     // entries, or none where the ledger was lost to a recovery.
     pub fn change_ensemble<S: Store>(
@@ -123,7 +123,7 @@ impl Writer<'_> {
 
     // Clears the marks of all pending entries at a position.
     fn unmark(&mut self, position: Position)
-        ensures { meant self.new ≡ with_pending (meant self.old) self.old.lac.0 (map (unmarked position.0) (records self.old.pending)) }
+        ensures { meant self.new ≡ with_pending (meant self.old) self.old.lac.0 (map (unmarked position.0) (listed self.old.pending)) }
     {
         // By number: a list that knows facts of its places lends its records only to be read. Lending them to be written was tried, and
         // got no proof.
@@ -142,7 +142,7 @@ impl Writer<'_> {
         bookie: BookieId,
         messages: &mut WaitingList<'_>,
     )
-        ensures { queue messages.new ≡ sent (queue messages.old) (adds_at self.now.layout ledger self.now.lac.0 position.0 bookie self.now.lac.0 (records self.now.pending)) }
+        ensures { queue messages.new ≡ sent (queue messages.old) (adds_at self.now.layout ledger self.now.lac.0 position.0 bookie self.now.lac.0 (listed self.now.pending)) }
     {
         let sizes = self.layout.sizes();
         for (k, add) in self.pending.as_slice().iter().enumerate() {

@@ -1,6 +1,6 @@
 // What a writer makes of a reply: marks, confirmed entries, or a fence.
 ghost use Rattle.std.specs.Prelude.{◌≡◌, ◌+◌, ◌≤◌, length};
-ghost use Rattle.places.specs.LentLists.{records};
+ghost use Rattle.places.specs.ShortLists.{listed};
 ghost use Rattle.protocol.specs.Writers.{reply_after, with_pending, marked_adds, is_acknowledged, confirmed, with_front, fenced_writer};
 ghost use Rattle.writers.specs.Meaning.{meant};
 ghost use Rattle.writers.specs.Fronts.{first_acknowledged, without_first};
@@ -9,9 +9,10 @@ use super::Writer;
 use ledgers::ids::{BookieId, EntryId, Lac};
 use messages::entries::PendingAdd;
 use messages::faults::BookieFault;
+use places::short_lists::ShortList;
 use protocol::writers::WriterState;
 
-impl Writer<'_> {
+impl Writer {
     // A bookie's answer to the add of an entry: a good one marks the bookie's position, and entries are confirmed in order as
     // far as they are acknowledged.
     pub fn reply(&mut self, bookie: BookieId, e: EntryId, outcome: Result<(), BookieFault>)
@@ -34,13 +35,13 @@ impl Writer<'_> {
     pub(crate) fn lose(&mut self)
         ensures { meant self.new ≡ fenced_writer (meant self.old) }
     {
-        self.pending.clear();
+        self.pending = ShortList::new();
         self.state = WriterState::Fenced;
     }
 
     // Marks the position at which a bookie stands in the write set of an entry, if that is pending.
     fn mark(&mut self, bookie: BookieId, e: EntryId)
-        ensures { meant self.new ≡ with_pending (meant self.old) self.old.lac.0 (marked_adds self.old.layout e.0 bookie.0 self.old.lac.0 (records self.old.pending)) }
+        ensures { meant self.new ≡ with_pending (meant self.old) self.old.lac.0 (marked_adds self.old.layout e.0 bookie.0 self.old.lac.0 (listed self.old.pending)) }
     {
         let Some(at) = e.0.checked_sub(self.lac.0) else {
             return;
@@ -54,7 +55,7 @@ impl Writer<'_> {
 
     // While the first pending entry has an ack quorum of marks, it is confirmed.
     fn confirm(&mut self)
-        ensures { meant self.new ≡ with_front (meant self.old) (confirmed self.old.layout self.old.lac.0 (records self.old.pending)) }
+        ensures { meant self.new ≡ with_front (meant self.old) (confirmed self.old.layout self.old.lac.0 (listed self.old.pending)) }
     {
         while self.is_first_acknowledged() {
             self.confirm_first();
@@ -82,9 +83,9 @@ impl Writer<'_> {
 
     // The first pending entry is confirmed.
     fn confirm_first(&mut self)
-        requires { 1 ≤ length (records self.old.pending) }
+        requires { 1 ≤ length (listed self.old.pending) }
         ensures after { meant self.new ≡ without_first (meant self.old) }
-        ensures fewer { length (records self.old.pending) ≡ length (records self.new.pending) + 1 }
+        ensures fewer { length (listed self.old.pending) ≡ length (listed self.new.pending) + 1 }
     {
         let _ = self.pending.remove(0);
         self.lac = Lac(self.lac.0 + 1);

@@ -6,19 +6,19 @@ ghost use Rattle.protocol.specs.Writers.{no_writer, new_writer};
 ghost use Rattle.writers.specs.Beginnings.{created_answer};
 ghost use Rattle.writers.specs.Meaning.{meant};
 
-use super::{MAX_PENDING, Writer};
+use super::Writer;
 use layout::fragments::Layout;
 use ledgers::ids::{Lac, LedgerId, Version};
 use messages::entries::PendingAdd;
 use places::Blank;
-use places::lent_lists::LentList;
+use places::short_lists::ShortList;
 use protocol::faults::ClientFault;
 use protocol::writers::WriterState;
 use stores::calls::Store;
 
-impl<'a> Writer<'a> {
-    // The writer of a ledger that is not there, with the places for what it will have pending.
-    pub fn absent(places: &'a mut [PendingAdd; MAX_PENDING]) -> Writer<'a>
+impl Writer {
+    // The writer of a ledger that is not there.
+    pub fn absent() -> Writer
         ensures { meant result ≡ no_writer }
     {
         Writer {
@@ -26,7 +26,7 @@ impl<'a> Writer<'a> {
             layout: Layout::blank(),
             version: Version(0),
             lac: Lac(0),
-            pending: LentList::new(&mut places[..]),
+            pending: ShortList::new(),
         }
     }
 
@@ -51,7 +51,7 @@ impl<'a> Writer<'a> {
         requires { version.0 ≡ 1 }
         ensures { meant self.new ≡ new_writer layout.now }
     {
-        self.pending.clear();
+        self.pending = ShortList::new();
         self.state = WriterState::Writing;
         self.layout = *layout;
         self.version = version;

@@ -13,7 +13,7 @@ use protocol::faults::ClientFault;
 use protocol::writers::WriterState;
 use stores::calls::Store;
 
-impl Writer<'_> {
+impl Writer {
     // Closes the ledger at the LAC, which it answers, or none where the ledger was lost to a recovery.
     pub fn close<S: Store>(
         &mut self,

@@ -1,7 +1,7 @@
 // What a writer sends: the adds of an entry, as it is appended and again.
 ghost use Rattle.std.specs.Prelude.{◌≡◌, ◌≤◌, true, Ok, length};
 ghost use Rattle.ledgers.specs.Ids.{entry_id};
-ghost use Rattle.places.specs.LentLists.{records};
+ghost use Rattle.places.specs.ShortLists.{listed};
 ghost use Rattle.messages.specs.Waiting.{sent};
 ghost use Rattle.messages.specs.declared.messages.Message.TheVariants.{Add};
 ghost use Rattle.waiting.specs.Queues.{queue};
@@ -19,7 +19,7 @@ use protocol::faults::ClientFault;
 use protocol::writers::WriterState;
 use waiting::WaitingList;
 
-impl Writer<'_> {
+impl Writer {
     // One entry more, pending, whose adds go to its write set. Answers its number.
     pub fn append(
         &mut self,
@@ -113,9 +113,10 @@ impl Writer<'_> {
     )
         ensures { queue messages.new ≡ sent (queue messages.old) (adds self.now.layout ledger e.0 self.now.lac.0 add.now) }
     {
+        let fragment = self.layout.fragment_of(e);
         for position in self.layout.sizes().write_set(e).as_slice() {
             if !is_marked(&add.marks, *position) {
-                let bookie = self.layout.bookie_at(e, Position(*position));
+                let bookie = fragment.bookie(Position(*position));
                 messages.send(self.add_of(ledger, bookie, e, add.body));
             }
         }
