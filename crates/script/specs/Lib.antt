@@ -1,4 +1,5 @@
 pub mod Refusals
 pub mod Printing
+pub mod Printed
 pub mod Playing
 pub mod Inputs

@@ -3,6 +3,7 @@ ghost use Rattle.std.specs.Prelude.{IfOk};
 ghost use Rattle.script.specs.Inputs.{LinesPlayed, InputPlayed};
 
 use crate::players::Player;
+use crate::printed::PrintedLine;
 use std::alloc::{AllocError, Global};
 
 // A longer input is not played.
@@ -42,9 +43,12 @@ fn play_lines(output: &mut Vec<u8>, input: &[u8]) -> Result<Player, AllocError>
     ensures { IfOk result (LinesPlayed output.old.items input.now output.new.items) }
 {
     let mut player = Player::new();
+    let mut text = PrintedLine::new();
     for line in input.split_inclusive(|byte| *byte == b'\n') {
-        output.extend_from_slice(player.play(line).as_str().as_bytes())?;
+        player.play(line, &mut text);
+        output.extend_from_slice(text.as_slice())?;
     }
-    output.extend_from_slice(player.totals().as_str().as_bytes())?;
+    player.totals(&mut text);
+    output.extend_from_slice(text.as_slice())?;
     Ok(player)
 }

@@ -7,5 +7,6 @@
 
 pub mod inputs;
 pub mod players;
+pub mod printed;
 pub mod printing;
 pub mod refusals;

@@ -1,11 +1,12 @@
 // A script that is being played: how many lines it has had, and how many of them were refused.
 ghost use Rattle.std.specs.Prelude.{◌≡◌, ◌≤◌, length};
+ghost use Rattle.script.specs.Printed.{text_of};
 ghost use Rattle.script.specs.Printing.{over};
 ghost use Rattle.script.specs.Playing.{absent_word, answer, new_player, counted, line_bytes, totals_bytes, LinePlayed, TotalsPrinted};
 
+use crate::printed::PrintedLine;
 use crate::printing::{OUTPUT_BYTES, print_answer, print_totals};
 use crate::refusals::Refusal;
-use arrayvec::ArrayString;
 use ledgers::steps::Step;
 use lines::{line_letter, read_line};
 
@@ -34,7 +35,9 @@ impl Player {
         if out.len() < OUTPUT_BYTES {
             return Err(Refusal::Output);
         }
-        Ok(put_front(out, self.play(line).as_str()))
+        let mut text = PrintedLine::new();
+        self.play(line, &mut text);
+        Ok(put_front(out, text.as_slice()))
     }
 
     // Writes the last line of a script, with the counts.
@@ -44,39 +47,42 @@ impl Player {
         if out.len() < OUTPUT_BYTES {
             return Err(Refusal::Output);
         }
-        Ok(put_front(out, self.totals().as_str()))
+        let mut text = PrintedLine::new();
+        self.totals(&mut text);
+        Ok(put_front(out, text.as_slice()))
     }
 
-    // Plays one line, whose answer is returned.
-    pub(crate) fn play(&mut self, line: &[u8]) -> ArrayString<OUTPUT_BYTES>
+    // Plays one line, and prints its answer into the text, in place of what it had. The text is lent, so that none is made and moved for
+    // each line of a script.
+    pub(crate) fn play(&mut self, line: &[u8], text: &mut PrintedLine)
         ensures player { self.new ≡ counted self.old line.now }
-        ensures answer { result.bytes ≡ line_bytes self.old line.now }
+        ensures answer { text_of text.new ≡ line_bytes self.old line.now }
     {
         let outcome = answer_line(line);
         self.lines = self.lines.saturating_add(1);
         if outcome.is_err() {
             self.refused = self.refused.saturating_add(1);
         }
-        print_answer(self.lines, line_letter(line), outcome)
+        print_answer(text, self.lines, line_letter(line), outcome);
     }
 
-    // The last line of a script, with the counts.
-    pub(crate) fn totals(&self) -> ArrayString<OUTPUT_BYTES>
-        ensures { result.bytes ≡ totals_bytes self.now }
+    // Prints the last line of a script, with the counts, in the same way.
+    pub(crate) fn totals(&self, text: &mut PrintedLine)
+        ensures { text_of text.new ≡ totals_bytes self.now }
     {
-        print_totals(self.lines, self.refused)
+        print_totals(text, self.lines, self.refused);
     }
 }
 
-// Writes a text over the front of `out`, and returns its length.
-fn put_front(out: &mut [u8], text: &str) -> usize
-    requires { length text.now ≤ length out.old }
-    ensures length { result ≡ length text.now }
-    ensures after { out.new ≡ over text.now out.old }
+// Writes bytes over the front of `out`, and returns how many they are.
+fn put_front(out: &mut [u8], bytes: &[u8]) -> usize
+    requires { length bytes.now ≤ length out.old }
+    ensures length { result ≡ length bytes.now }
+    ensures after { out.new ≡ over bytes.now out.old }
 {
-    let (front, _) = out.split_at_mut(text.len());
-    front.copy_from_slice(text.as_bytes());
-    text.len()
+    let (front, _) = out.split_at_mut(bytes.len());
+    front.copy_from_slice(bytes);
+    bytes.len()
 }
 
 // What a line is answered: what it names is not there, if it is a step at all.

@@ -1,12 +1,11 @@
-// The texts of printed lines. Each lies in a value of its own, so that nothing is allocated for it. They are pushed together
-// and not written by `write!`, which may fail for all that it promises, where a line is always printed: tried, and the
-// proof did not close.
-ghost use Rattle.std.specs.Prelude.{◌≡◌, ◌<◌};
-ghost use Rattle.script.specs.Printing.{letter_byte, number_of, answer_line, totals_line};
+// The texts of printed lines, each written from its end on. They are not written by `write!`, which may fail for all that it
+// promises, where a line is always printed: tried, and the proof did not close.
+ghost use Rattle.std.specs.Prelude.{◌≡◌, ◌<◌, ◌≤◌, ◌+◌, ◌++◌, length};
+ghost use Rattle.script.specs.Printed.{text_of};
+ghost use Rattle.script.specs.Printing.{letter_byte, number_of, value_bytes, answer_line, totals_line};
 
+use crate::printed::PrintedLine;
 use crate::refusals::Refusal;
-use arrayvec::ArrayString;
-use itoa::Buffer;
 use words::Letter;
 
 // No printed line is longer.
@@ -14,48 +13,42 @@ pub const OUTPUT_BYTES: usize = 128;
 
 // The answer to a line: its number, its letter, 0 or the refusal, and the value of the step or the word of the refusal.
 pub(crate) fn print_answer(
+    text: &mut PrintedLine,
     line: u64,
     letter: Option<Letter>,
     outcome: Result<i32, Refusal>,
-) -> ArrayString<OUTPUT_BYTES>
-    ensures { result.bytes ≡ answer_line line letter outcome }
+)
+    ensures { text_of text.new ≡ answer_line line letter outcome }
 {
-    let mut digits = Buffer::new();
-    let mut text = ArrayString::new();
-    text.push_str(digits.format(line));
-    text.push(' ');
-    text.push(printed_letter(letter));
-    text.push(' ');
-    text.push_str(digits.format(printed_refusal(&outcome)));
-    text.push(' ');
-    match outcome {
-        Ok(value) => text.push_str(digits.format(value)),
-        Err(refusal) => text.push_str(digits.format(refusal.word())),
-    }
-    text.push('\n');
-    text
+    text.clear();
+    text.put(b'\n');
+    put_value(text, outcome);
+    text.put(b' ');
+    text.put_number(u64::from(printed_refusal(&outcome)));
+    text.put(b' ');
+    text.put(printed_letter(letter));
+    text.put(b' ');
+    text.put_number(line);
 }
 
 // The last line: how many lines were played, and how many of them were refused.
-pub(crate) fn print_totals(lines: u64, refused: u64) -> ArrayString<OUTPUT_BYTES>
-    ensures { result.bytes ≡ totals_line lines refused }
+pub(crate) fn print_totals(text: &mut PrintedLine, lines: u64, refused: u64)
+    ensures { text_of text.new ≡ totals_line lines refused }
 {
-    let mut digits = Buffer::new();
-    let mut text = ArrayString::new();
-    text.push_str("= ");
-    text.push_str(digits.format(lines));
-    text.push(' ');
-    text.push_str(digits.format(refused));
-    text.push('\n');
-    text
+    text.clear();
+    text.put(b'\n');
+    text.put_number(refused);
+    text.put(b' ');
+    text.put_number(lines);
+    text.put(b' ');
+    text.put(b'=');
 }
 
 // A first word that is no letter of a step is printed as a question mark.
-fn printed_letter(letter: Option<Letter>) -> char
-    ensures value { result ≡ letter_byte letter }
-    ensures ascii { result < 128 }
+fn printed_letter(letter: Option<Letter>) -> u8
+    ensures { result ≡ letter_byte letter }
 {
-    letter.map_or('?', |known| char::from(u8::from(known)))
+    letter.map_or(b'?', u8::from)
 }
 
 fn printed_refusal(outcome: &Result<i32, Refusal>) -> u8
@@ -64,5 +57,22 @@ fn printed_refusal(outcome: &Result<i32, Refusal>) -> u8
     match *outcome {
         Ok(_) => 0,
         Err(refusal) => u8::from(refusal),
+    }
+}
+
+// The value of a step, or the word of a refusal.
+fn put_value(text: &mut PrintedLine, outcome: Result<i32, Refusal>)
+    requires { length (text_of text.old) + 21 ≤ 128 }
+    ensures value { text_of text.new ≡ value_bytes outcome ++ text_of text.old }
+    ensures long { length (text_of text.new) ≤ length (text_of text.old) + 21 }
+{
+    match outcome {
+        Ok(value) => {
+            text.put_number(u64::from(value.unsigned_abs()));
+            if value < 0 {
+                text.put(b'-');
+            }
+        }
+        Err(refusal) => text.put_number(refusal.word() as u64),
     }
 }
