@@ -1,8 +1,8 @@
 -- The library's searches through a list of entries are the protocol's.
-use Rattle.std.proofs.Common.{◌≡◌, ℕ, max, cond, eqb, List, [], ◌∷◌, Some, None, Option, Ordering, Less, Equal, Greater, option_map, unwrap_or, fold, filter, refl, ap, arith}
+use Rattle.std.proofs.Common.{◌≡◌, ℕ, max, cond, eqb, List, [], ◌∷◌, Some, Ordering, Less, Equal, Greater, fold, filter, refl, ap, ◌∙◌, arith}
 use Rattle.std.proofs.lemmas.Bool.Decides.{nat_tests}
 use Rattle.std.specs.List.{find}
-use Rattle.std.specs.Ordering.{max_by_ordering}
+use Rattle.std.specs.Ordering.{nat_cmp, max_by_ordering}
 use Rattle.ledgers.specs.declared.ids.Lac.{Lac}
 use Rattle.messages.specs.declared.entries.Held.{Held}
 use Rattle.protocol.specs.Bookies.{is_copy, find as copy_in, highest_lac}
@@ -20,13 +20,23 @@ module _ (l : ℕ) where
       let b = fold_highest (max n h.lac.0) hs in
       grind (arith, nat_tests)
 
--- the later of two LACs has the greater number
-pub later_number : (o : Ordering) (p z : Lac) → (max_by_ordering o p z).0 ≡ max_by_ordering o p.0 z.0
-later_number Less p z = refl
-later_number Equal p z = refl
-later_number Greater p z = refl
+-- the later of a LAC and that of an entry
+abbrev pub later : Lac → Held → Lac
+later n h = max_by_ordering (nat_cmp n.0 h.lac.0) n h.lac
 
--- the number of a LAC, or of none
-pub number_or : (o : Option Lac) (none : Lac) → (unwrap_or o none).0 ≡ unwrap_or (option_map (λ (n : Lac). n.0) o) none.0
-number_or None none = refl
-number_or (Some n) none = refl
+-- it has the greater number
+later_number : (n : Lac) (h : Held) → (later n h).0 ≡ max n.0 h.lac.0
+later_number n h = number (nat_cmp n.0 h.lac.0) n h.lac ∙ greater n.0 h.lac.0
+  where
+    number : (o : Ordering) (p z : Lac) → (max_by_ordering o p z).0 ≡ max_by_ordering o p.0 z.0
+    number Less p z = refl
+    number Equal p z = refl
+    number Greater p z = refl
+
+    greater : (a b : ℕ) → max_by_ordering (nat_cmp a b) a b ≡ max a b
+    greater a b = grind arith
+
+-- the number of the latest is the greatest number
+pub latest_number : (n : Lac) (es : List Held) → (fold later n es).0 ≡ fold (λ m (h : Held). max m h.lac.0) n.0 es
+latest_number n [] = refl
+latest_number n (h ∷ hs) = latest_number (later n h) hs ∙ ap (λ m. fold (λ k (x : Held). max k x.lac.0) m hs) (later_number n h)

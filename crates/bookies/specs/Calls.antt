@@ -5,7 +5,6 @@ use Rattle.ledgers.specs.declared.bodies.Body.{Body}
 use Rattle.ledgers.specs.declared.ids.EntryId.{EntryId}
 use Rattle.ledgers.specs.declared.ids.Lac.{Lac}
 use Rattle.ledgers.specs.declared.ids.LedgerId.{LedgerId}
-use Rattle.messages.specs.declared.entries.Held.{Held}
 use Rattle.messages.specs.declared.faults.BookieFault.{BookieFault}
 use Rattle.messages.specs.declared.faults.BookieFault.TheVariants as fault
 use Rattle.protocol.specs.Bookies.{Bookie, add_answer, add_after}

@@ -28,7 +28,5 @@ pub fn highest<I: Iterator<Item = Held> + Drop>(entries: I, ledger: LedgerId) ->
 {
     entries
         .filter(|held| held.ledger == ledger)
-        .map(|held| held.lac)
-        .max()
-        .unwrap_or(Lac(0))
+        .fold(Lac(0), |best, held| best.max(held.lac))
 }

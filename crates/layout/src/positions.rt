@@ -41,9 +41,11 @@ impl Sizes {
         ensures { listed_positions result ≡ positions count e.0 self.now.ensemble }
     {
         let mut positions = ShortList::new();
-        // By offset: each position is counted from one, and nothing collects into a list without memory of its own.
+        // Each is the one after the last, so that only the first costs a division. Nothing collects into a list without memory of its own.
+        let mut at = self.position(e, 0);
         for offset in 0..count {
-            positions.push(self.position(e, offset).0);
+            positions.push(at.0);
+            at = self.position_after(at);
         }
         Positions(positions)
     }

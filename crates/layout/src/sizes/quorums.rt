@@ -22,6 +22,15 @@ impl Sizes {
         Position(((e.0 as usize + offset as usize) % self.ensemble as usize) as u32)
     }
 
+    // The next position; behind the last one the first.
+    pub(crate) fn position_after(&self, position: Position) -> Position
+        requires { position.0 < self.now.ensemble }
+        ensures { result.0 ≡ (position.0 + 1) % self.now.ensemble }
+    {
+        let next = position.0 + 1;
+        Position(if next < self.ensemble { next } else { 0 })
+    }
+
     // Whether an entry is written to a position.
     pub fn writes_to(&self, e: EntryId, position: Position) -> bool
         ensures { result ≡ member position.0 (write_set self.now e.0) }
