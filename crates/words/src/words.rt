@@ -1,7 +1,8 @@
 // The words of a line. They borrow from it, and know their place in it.
 ghost use Rattle.std.specs.Prelude.{◌≡◌, ◌≤◌, length};
 ghost use Rattle.std.specs.List.{prefix_len};
-ghost use Rattle.words.specs.Words.{inner, meant, word_at, first_of, after_first, letter_in, number_in, body_in, printable};
+ghost use Rattle.words.specs.Numerals.{numeral};
+ghost use Rattle.words.specs.Words.{inner, meant, number_or_text, word_at, first_of, after_first, letter_in, number_in, body_in, printable};
 
 use crate::faults::LineFault;
 use crate::letters::Letter;
@@ -34,17 +35,26 @@ impl<'a> Word<'a> {
     pub fn new(bytes: &'a [u8], place: usize) -> Word<'a>
         ensures { meant result ≡ word_at place bytes.now }
     {
-        match (bytes, read_number(bytes)) {
-            ([letter], _) if place == 0 => Word::Letter {
+        match bytes {
+            [letter] if place == 0 => Word::Letter {
                 letter: *letter,
                 place,
             },
-            (digits, Some(value)) => Word::Number {
-                digits,
+            _ => Word::number_or_text(bytes, place),
+        }
+    }
+
+    // The same for what is no letter.
+    fn number_or_text(bytes: &'a [u8], place: usize) -> Word<'a>
+        ensures { meant result ≡ number_or_text place bytes.now (numeral bytes.now) }
+    {
+        match read_number(bytes) {
+            Some(value) => Word::Number {
+                digits: bytes,
                 value,
                 place,
             },
-            (text, None) => Word::Text { text, place },
+            None => Word::Text { text: bytes, place },
         }
     }
 
