@@ -1,4 +1,5 @@
 pub mod Lists
 pub mod Padding
 pub mod ShortLists
+pub mod Memory
 pub mod LentLists
