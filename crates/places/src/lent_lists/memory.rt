@@ -5,10 +5,19 @@ ghost use Rattle.places.specs.Memory.{contents};
 
 use crate::{Blank, append, clear, put, remove};
 
-#[derive(Drop)]
 pub(crate) enum Places<'a, T> {
     Lent(&'a mut [T]),
     Owned(Vec<T>),
+}
+
+// Not derived: that would put the match into each function that lets a list go, where no rule of the check covers it.
+impl<'a, T: Drop> Drop for Places<'a, T> {
+    fn drop(self) {
+        match self {
+            Places::Lent(_) => {}
+            Places::Owned(places) => drop(places),
+        }
+    }
 }
 
 // What the functions of the same names do to a slice is done here to the places, whoever has them.
