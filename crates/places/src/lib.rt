@@ -1,9 +1,9 @@
 // Lists in a fixed number of places, for every kind of record that has a blank one: the first places hold the records, in order.
 //
 // A new record goes to the first free place, or is lost where none is free. Taking a record off closes the gap and blanks
-// the place that is vacated at the end. A `LentList` is such a list in places that somebody lends, and a `ShortList` one of a few
-// records in memory of its own, which is copied as its records are. The functions of this file are what both are built on. They
-// take any numbers: what is no list, or no place of it, is left alone.
+// the place that is vacated at the end. A `LentList` is such a list in places that somebody lends, or hands over for good,
+// and a `ShortList` one of a few records within itself, which is copied as its records are. The functions of this file are
+// what both are built on. They take any numbers: what is no list, or no place of it, is left alone.
 //
 // A `LentLog` is a list in lent places that changes at its end alone. It leaves what stands behind its records as it is, so that they
 // need no blank.

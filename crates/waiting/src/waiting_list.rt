@@ -1,5 +1,5 @@
-// The messages that wait, in places that are lent.
-ghost use Rattle.std.specs.Prelude.{◌≡◌, length};
+// The messages that wait, in places that are lent or handed over.
+ghost use Rattle.std.specs.Prelude.{◌≡◌, length, vec_len};
 ghost use Rattle.messages.specs.Waiting.{sent_one};
 ghost use Rattle.waiting.specs.Queues.{queue, no_messages, waiting_at, taken_from};
 
@@ -15,6 +15,13 @@ impl<'a> WaitingList<'a> {
         ensures { queue result ≡ no_messages (length places.old) }
     {
         WaitingList(LentList::new(places))
+    }
+
+    // The same in memory of its own, which it keeps: such a list can be returned by whoever made it, and stored.
+    pub fn owning(places: Vec<Message>) -> WaitingList<'a>
+        ensures { queue result ≡ no_messages (vec_len places) }
+    {
+        WaitingList(LentList::owning(places))
     }
 
     // How many messages wait.

@@ -1,10 +1,12 @@
 // What a lent list can be asked, and how it changes.
-ghost use Rattle.std.specs.Prelude.{◌≡◌, [], length, slice_set, nat_lt};
+ghost use Rattle.std.specs.Prelude.{◌≡◌, [], length, slice_set, nat_lt, vec_len};
 ghost use Rattle.places.specs.Lists.{posted};
+ghost use Rattle.places.specs.Memory.{contents};
 ghost use Rattle.places.specs.LentLists.{records, room, record_at, without_at};
 
 use super::LentList;
-use crate::{Blank, append, clear, remove};
+use super::memory::Places;
+use crate::Blank;
 
 impl<'a, T: Blank + Copy> LentList<'a, T> {
     // The list with no records, once every place is blank.
@@ -12,7 +14,23 @@ impl<'a, T: Blank + Copy> LentList<'a, T> {
         ensures records { records result ≡ [] }
         ensures room { room result ≡ length places.old }
     {
-        clear(places);
+        LentList::emptied(Places::Lent(places))
+    }
+
+    // The same in places that are handed over, for a list that outlives who made it.
+    pub fn owning(places: Vec<T>) -> LentList<'a, T>
+        ensures records { records result ≡ [] }
+        ensures room { room result ≡ vec_len places }
+    {
+        LentList::emptied(Places::Owned(places))
+    }
+
+    // The list with no records in these places.
+    fn emptied(mut places: Places<'a, T>) -> LentList<'a, T>
+        ensures records { records result ≡ [] }
+        ensures room { room result ≡ length (contents places.entry) }
+    {
+        places.clear();
         LentList { places, count: 0 }
     }
 
@@ -27,23 +45,23 @@ impl<'a, T: Blank + Copy> LentList<'a, T> {
     pub fn has_room(&self) -> bool
         ensures { result ≡ nat_lt (length (records self.now)) (room self.now) }
     {
-        self.count < self.places.len()
+        self.count < self.places.as_slice().len()
     }
 
     // The records.
     pub fn as_slice(&self) -> &[T]
         ensures { result.now ≡ records self.now }
     {
-        &self.places[..self.count]
+        &self.places.as_slice()[..self.count]
     }
 
     // One record more behind the others, lost where no place is free.
     pub fn push(&mut self, item: T)
         ensures records { records self.new ≡ posted (room self.old) (records self.old) item }
         ensures room { room self.new ≡ room self.old }
-        ensures places { self.new.places.now ≡ slice_set self.old.places.now (length (records self.old)) item }
+        ensures places { contents self.new.places ≡ slice_set (contents self.old.places) (length (records self.old)) item }
     {
-        self.count = append(self.places, self.count, item);
+        self.count = self.places.append(self.count, item);
     }
 
     // Takes the record at `at` off, if there is one.
@@ -52,7 +70,7 @@ impl<'a, T: Blank + Copy> LentList<'a, T> {
         ensures records { records self.new ≡ without_at (records self.old) at }
         ensures room { room self.new ≡ room self.old }
     {
-        let taken = remove(self.places, self.count, at);
+        let taken = self.places.remove(self.count, at);
         if taken.is_some() {
             self.count -= 1;
         }
@@ -65,7 +83,7 @@ impl<'a, T: Blank + Copy> LentList<'a, T> {
         ensures room { room self.new ≡ room self.old }
     {
         if at < self.count {
-            self.places[at] = item;
+            self.places.put(at, item);
         }
     }
 
@@ -74,7 +92,7 @@ impl<'a, T: Blank + Copy> LentList<'a, T> {
         ensures records { records self.new ≡ [] }
         ensures room { room self.new ≡ room self.old }
     {
-        clear(self.places);
+        self.places.clear();
         self.count = 0;
     }
 }

@@ -1,12 +1,13 @@
 use Rattle.std.proofs.Common.{◌≤◌, ◌-◌, length, drop, set, replicate, sym, ap, ◌∙◌, arith, length-set}
 use mathlib.Core.Logic.{∥∥₁_elim, ∥∥₁_prop}
 use Rattle.std.proofs.lemmas.Bool.Decides.{nat_tests}
+use Rattle.places.specs.Memory.{contents}
 use Rattle.places.proofs.Records.{append_behind, blank_past}
 use Rattle.places.proofs.lent_lists.LentList.push.Goals as goal
 
 pub invariant_of-self : goal.invariant_of-self
 invariant_of-self g c =
-    let xs = c.args.self.now.places.now in
+    let xs = contents c.args.self.now.places in
     let n = c.args.self.now.count in
     let x = c.args.item in
     let r = c.append-self.result in

@@ -2,20 +2,21 @@ use Rattle.std.proofs.Common.{◌≡◌, ◌-◌, ◌<◌, ◌≤◌, ◌∷◌,
 use mathlib.Core.Logic.{∥∥₁_elim, ∥∥₁_prop}
 use Rattle.std.proofs.lemmas.List.{length-take-le}
 use Rattle.std.proofs.lemmas.Bool.{cond-true, lt-ltb}
+use Rattle.places.specs.Memory.{contents}
 use Rattle.places.proofs.Records.{taken_there, closed_records, closed_behind, blank_before}
 use Rattle.places.proofs.lent_lists.LentList.remove.Goals as goal
 
 pub invariant_of-self : goal.invariant_of-self
 invariant_of-self g c =
-    let xs = c.args.self.now.places.now in
+    let xs = contents c.args.self.now.places in
     let n = c.args.self.now.count in
     let at = c.args.at in
     let blank = g.T.Blank.empty in
-    let ys = c.remove-taken.new.places in
+    let ys = contents c.remove-taken.new.self in
     let within : n ≤ length xs = c.args.self.now.within in
-    let there = taken_there blank xs ys n at c.remove-taken.result (sym c.is_some.ensures ∙ c.if-is_some.true) c.remove-taken.ensures in
+    let there = taken_there blank xs ys n at c.remove-taken.result (sym c.is_some.ensures ∙ c.if-is_some.true) c.remove-taken.ensures.after in
     let first : at < n = there.0 in
-    let size : length ys ≡ length xs = c.remove-taken.auto.places in
+    let size : length ys ≡ length xs = c.remove-taken.ensures.room in
     record {
       within = omega (arith, within, size);
       clear =
@@ -28,11 +29,11 @@ invariant_of-self g c =
 
 pub returns-then-is_some-clause-records : goal.returns-then-is_some-clause-records
 returns-then-is_some-clause-records g c =
-    let xs = c.args.self.now.places.now in
+    let xs = contents c.args.self.now.places in
     let n = c.args.self.now.count in
     let at = c.args.at in
     let within : n ≤ length xs = c.args.self.now.within in
-    let there = taken_there g.T.Blank.empty xs c.remove-taken.new.places n at c.remove-taken.result (sym c.is_some.ensures ∙ c.if-is_some.true) c.remove-taken.ensures in
+    let there = taken_there g.T.Blank.empty xs (contents c.remove-taken.new.self) n at c.remove-taken.result (sym c.is_some.ensures ∙ c.if-is_some.true) c.remove-taken.ensures.after in
     let first : at < n = there.0 in
     let long = length-take-le n xs within in
     ap (take (n - 1)) there.1 ∙ closed_records g.T.Blank.empty xs n at first within
