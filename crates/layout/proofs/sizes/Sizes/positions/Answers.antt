@@ -14,8 +14,7 @@ loop-offset-preserved c =
     let so_far = positions i c.args.e.0 m in
     let p = c.loop-offset.at.0 in
     let here = c.loop-offset.invariant.1 in
-    let one_on : (c.args.e.0 + i) + 1 ≡ c.args.e.0 + (i + 1) = omega arith in
-    (
+    let one_on : (c.args.e.0 + i) + 1 ≡ c.args.e.0 + (i + 1) = omega arith in (
       c.push.ensures ∙ ap (λ ps. posted 5 ps p) c.loop-offset.invariant.0
           ∙ cond-true _ _ _ (lt-ltb (length so_far) 5 (omega (arith, length_positions i c.args.e.0 m)))
           ∙ ap (λ q. so_far ++ (q ∷ [])) here ∙ sym (positions_push i c.args.e.0 m),
