@@ -1,7 +1,6 @@
 // The way to a new journal bookie over lent bytes.
 ghost use Rattle.std.specs.Prelude.{◌≡◌, false, [], length, replicate};
 ghost use Rattle.std.specs.Fn.{FnOnceReturnsAtMut};
-ghost use Rattle.protocol.specs.Bookies.{Bookie};
 ghost use Rattle.journals.specs.declared.journal.JournalBookie.{JournalBookie};
 ghost use Rattle.journals.specs.Files.{laid_out, size_fits};
 ghost use Rattle.journals.specs.Journal.{file_of, in_journal};
@@ -41,11 +40,11 @@ pub fn with_journal<R, F: FnOnce(&mut JournalBookie<'_>) -> R + Drop>(
 // journal up for any such user has nothing to ask of it, where a closure has to be one that can be called.
 pub trait JournalUser {
     type Answer;
-    // What it promises of its answer, by what the bookie means when it gets it.
-    ghost promises: { Self → Bookie → Self.Answer → Type 0 };
+    // What it promises of its answer, by the bookie as it gets it: what that means, and its bytes.
+    ghost promises: { Self → JournalBookie → Self.Answer → Type 0 };
 
     fn work(self, bookie: &mut JournalBookie<'_>) -> Self::Answer
-        ensures { promises self (in_journal bookie.old) result };
+        ensures { promises self bookie.old result };
 }
 
 // Sets a new journal bookie up over the memory and lets the user work with it; memory of the wrong size is refused and
@@ -54,8 +53,15 @@ pub fn lend_journal<U: JournalUser + Drop>(
     file: &mut [u8],
     user: U,
 ) -> Result<U::Answer, SetUpFault>
-    ensures answer { SetUp (U.promises user) (length file.old) result }
+    ensures answer { SetUp
+        (λ means answer. (before : JournalBookie)
+        × (in_journal before ≡ means)
+        × (file_of before ≡ laid_out (length file.old) [] (replicate 16 false))
+        × U.promises user before answer)
+        (length file.old) result }
     ensures refused { size_fits (length file.old) ≡ false → file.new ≡ file.old }
 {
-    with_journal(file, |bookie| user.work(bookie))
+    // Taken apart, since of an answer `with_journal` says which bookie the closure was called on.
+    let answer = with_journal(file, |bookie| user.work(bookie))?;
+    Ok(answer)
 }
